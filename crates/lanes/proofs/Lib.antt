@@ -1,0 +1,5 @@
+pub mod Integers
+pub mod Signed
+pub mod Words
+pub mod Reader
+pub mod Unique

@@ -1,0 +1,52 @@
+-- The laws of unsigned numbers, once over the width k: a product fits, a power fits, ones counted, halves joined, bits rotated.
+-- Assumes nothing.
+use Prim.Native.Nat.{ℕ, zero, suc, _+_, _-_, _*_, _/_, _%_, _^_, _<_, _≤_}
+use mathlib.Core.Path.{_≡_, refl, sym, ap, _∙_, subst, subst⁻¹}
+use native.Mathlib.Omega.{arith}
+use native.Mathlib.Nat.{le-of-lt, lt-of-le-of-lt, mul-le-mul, mul-le-mul-left, mul-lt-mul-of-pos-right, pow-suc, add-mul, mul-assoc, add-assoc, mod-lt, mul-comm}
+use lib.Arith.{digits-lt}
+use lib.Count.{ones, onesIn, ones-step}
+use lib.Pow.{pow-pos, pow-add, split, high, low, shr-lt}
+use Rattle.lanes.specs.Width.{join, rotatedRight}
+
+-- the product of two numbers of k bits has at most k + k
+pub product-fits : (k : ℕ) {a b : ℕ} → a < 2 ^ k → b < 2 ^ k → a * b < 2 ^ (k + k)
+product-fits k {a} {b} ha hb =
+    subst⁻¹ (λ (n : ℕ). a * b < n) (pow-add 2 k k)
+    (lt-of-le-of-lt (mul-le-mul-left a (le-of-lt hb)) (mul-lt-mul-of-pos-right ha (pow-pos k)))
+
+-- two halves of k bits make a number of k + k
+pub join-lt : (k : ℕ) {hi lo : ℕ} → hi < 2 ^ k → lo < 2 ^ k → join k hi lo < 2 ^ (k + k)
+join-lt k {hi} {lo} h l = subst⁻¹ (λ (n : ℕ). hi * 2 ^ k + lo < n) (pow-add 2 k k) (digits-lt h l)
+
+-- all the ones of a number of k bits are in its k lowest digits
+pub all-ones-in : (k x : ℕ) → x < 2 ^ k → ones x ≡ onesIn k x
+unfolding ones onesIn
+all-ones-in zero x h =
+    let z : x ≡ 0 = omega arith in
+    rw z
+all-ones-in (suc k) x h = ones-step x ∙ ap (λ (n : ℕ). x % 2 + n) (all-ones-in k (x / 2) (omega (arith, pow-suc 2 k)))
+
+-- two copies of x side by side, moved right by n places: the lower copy is x rotated. Here m is 2^n, p is 2^(k-n), and x is q * m + r
+copies : (x q r m p : ℕ) → x ≡ q * m + r → x * (p * m) + x ≡ (x * p + q) * m + r
+copies x q r m p e = ap (λ (n : ℕ). x * (p * m) + n) e ∙ simp (add-mul, mul-assoc, add-assoc)
+
+crossing : (x q r m p : ℕ) → x ≡ q * m + r → x * p + q ≡ q * (m * p) + (r * p + q)
+crossing x q r m p e = ap (λ (n : ℕ). n * p + q) e ∙ simp (add-mul, mul-assoc, add-assoc)
+
+pub rotated-by-copies : (k x n : ℕ) → n ≤ k → x < 2 ^ k → join k x x / 2 ^ n % 2 ^ k ≡ rotatedRight k n x
+rotated-by-copies k x n h l =
+    let m = 2 ^ n in
+    let p = 2 ^ (k - n) in
+    let q = x / 2 ^ n in
+    let r = x % 2 ^ n in
+    let t : k ≡ k - n + n = omega arith in
+    let e : 2 ^ k ≡ p * m = ap (λ (j : ℕ). 2 ^ j) t ∙ pow-add 2 (k - n) n in
+    let f : m * p ≡ 2 ^ k = mul-comm m p ∙ sym e in
+    let d : x ≡ q * m + r = sym (split x n) in
+    let b : r < m = mod-lt x (pow-pos n) in
+    let c : q < p = shr-lt (k - n) n (subst (λ (j : ℕ). x < 2 ^ j) t l) in
+    let s : join k x x ≡ (x * p + q) * m + r = ap (λ (y : ℕ). x * y + x) e ∙ copies x q r m p d in
+    let u : x * p + q ≡ q * 2 ^ k + (r * p + q) = crossing x q r m p d ∙ ap (λ (y : ℕ). q * y + (r * p + q)) f in
+    ap (λ (y : ℕ). y / m % 2 ^ k) s ∙ ap (λ (y : ℕ). y % 2 ^ k) (high (x * p + q) n b ∙ u)
+    ∙ low q k (subst (λ (y : ℕ). r * p + q < y) f (digits-lt b c))
