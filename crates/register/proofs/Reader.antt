@@ -1,0 +1,103 @@
+-- For the reader of specs/: both ways through rows and through bytes give back what went in, and an operation across registers is that operation at
+-- every lane, as document 01 numbers lanes.
+-- Assumes nothing.
+use Prim.Native.Nat.{ℕ, zero, suc, _+_, _*_, _/_, _%_, _^_, _≤_, _<_}
+use mathlib.Core.Path.{_≡_, refl, sym, ap, ap₂, _∙_}
+use mathlib.Core.Bool.{Bool, true, false}
+use mathlib.Core.List.{List, []}
+use native.Mathlib.Omega.{arith}
+use borrow.Author.Tests.{eqb-true, eqb-false}
+use lib.Dec.{eqb}
+use lib.ListN.{length, getD}
+use lib.Pow as pow
+use Rattle.lanes.specs.Width.{low, high, join, halves₂}
+use Rattle.register.specs.declared.Register.{Register}
+use Rattle.register.specs.Layout.{number, lane, rowOf, ofRow, ofBytes, bytesOf, bytesOfWord}
+use Rattle.register.specs.Across.{words₃, halfwords₂, longs₃}
+use Rattle.register.proofs.Held.{Held}
+use Rattle.register.proofs.Lanes.{value, digit-at, number-in-words, word-lane, joined-lanes, low-half, high-half}
+use Rattle.register.proofs.ByteOrder.{word-of-its-bytes, value-of-word, digits-of-word, next-four, bytes-of-word-at, all-dropped}
+use Rattle.register.proofs.Made.{same}
+
+-- ---- rows and bytes
+
+pub row-and-back : (r : Register) → ofRow (rowOf r) ≡ r
+row-and-back r = refl
+
+pub from-row-and-back : (l : List ℕ) → length l ≡ 4 → rowOf (ofRow l) ≡ l
+from-row-and-back l n = sym (next-four l 0 (omega arith) (all-dropped l 4 n))
+
+pub bytes-and-back : (r : Register) → Held r → ofBytes (bytesOf r) ≡ r
+bytes-and-back r h =
+    same (word-of-its-bytes _ (h .w0-fits)) (word-of-its-bytes _ (h .w1-fits)) (word-of-its-bytes _ (h .w2-fits)) (word-of-its-bytes _ (h .w3-fits))
+
+pub from-bytes-and-back : (l : List ℕ) → length l ≡ 16 → ((i : ℕ) → getD l i 0 < 2 ^ 8) → bytesOf (ofBytes l) ≡ l
+from-bytes-and-back l n b =
+    bytes-of-word-at l b 0 (omega arith)
+    (sym (bytes-of-word-at l b 4 (omega arith)
+    (sym (bytes-of-word-at l b 8 (omega arith)
+    (sym (bytes-of-word-at l b 12 (omega arith) (all-dropped l 16 n)))))))
+
+-- byte i is bits 8i+7 to 8i
+pub byte-lane : (i : ℕ) (r : Register) → Held r → getD (bytesOf r) i 0 ≡ lane 8 i r
+unfolding lane
+byte-lane i r h =
+    let t3 = bytesOfWord (r .w3) [] in
+    let t2 = bytesOfWord (r .w2) t3 in
+    let t1 = bytesOfWord (r .w1) t2 in
+    let digits = digits-of-word (r .w0) t1 (digits-of-word (r .w1) t2 (digits-of-word (r .w2) t3 (digits-of-word (r .w3) [] tt))) in
+    let in-words : value 8 (bytesOf r) ≡ value 32 (rowOf r)
+    = value-of-word (r .w0) t1 (h .w0-fits)
+    (value-of-word (r .w1) t2 (h .w1-fits)
+    (value-of-word (r .w2) t3 (h .w2-fits)
+    (value-of-word (r .w3) [] (h .w3-fits) refl))) in
+    sym (digit-at 8 i (bytesOf r) digits) ∙ ap (λ (n : ℕ). n / 2 ^ (8 * i) % 2 ^ 8) (in-words ∙ sym (number-in-words r))
+
+-- ---- an operation at every lane
+
+pub at-words : (f : ℕ → ℕ → ℕ → ℕ) (a b c : Register) → Held a → Held b → Held c → Held (words₃ f a b c)
+    → (i : ℕ) → i < 4 → lane 32 i (words₃ f a b c) ≡ f (lane 32 i a) (lane 32 i b) (lane 32 i c)
+at-words f a b c ha hb hc hr i l =
+    word-lane i _ hr ∙ in-row i l ∙ sym (λ j. f (word-lane i a ha j) (word-lane i b hb j) (word-lane i c hc j))
+  where
+    in-row : (n : ℕ) → n < 4 → getD (rowOf (words₃ f a b c)) n 0 ≡ f (getD (rowOf a) n 0) (getD (rowOf b) n 0) (getD (rowOf c) n 0)
+    in-row zero m = refl
+    in-row (suc zero) m = refl
+    in-row (suc (suc zero)) m = refl
+    in-row (suc (suc (suc zero))) m = refl
+    in-row (suc (suc (suc (suc n)))) m = absurd (omega arith)
+
+pub at-halfwords : (f : ℕ → ℕ → ℕ) → ((x y : ℕ) → x < 2 ^ 16 → y < 2 ^ 16 → f x y < 2 ^ 16)
+    → (a b : Register) → Held a → Held b → Held (halfwords₂ f a b)
+    → (i : ℕ) → i < 8 → lane 16 i (halfwords₂ f a b) ≡ f (lane 16 i a) (lane 16 i b)
+at-halfwords f fits a b ha hb hr i l = go (eqb (i % 2) 0) refl
+  where
+    word : lane 32 (i / 2) (halfwords₂ f a b) ≡ halves₂ 16 f (lane 32 (i / 2) a) (lane 32 (i / 2) b)
+    word = at-words (λ (x y z : ℕ). halves₂ 16 f x y) a b b ha hb hb hr (i / 2) (omega arith)
+
+    bounded : f (low 16 (lane 32 (i / 2) a)) (low 16 (lane 32 (i / 2) b)) < 2 ^ 16
+    bounded = fits (low 16 (lane 32 (i / 2) a)) (low 16 (lane 32 (i / 2) b)) (omega arith) (omega arith)
+
+    go : (t : Bool) → eqb (i % 2) 0 ≡ t → lane 16 i (halfwords₂ f a b) ≡ f (lane 16 i a) (lane 16 i b)
+    go true t =
+        let e = eqb-true (i % 2) 0 t in
+        sym (low-half 16 i _ refl e) ∙ ap (low 16) word ∙ pow.low _ 16 bounded ∙ ap₂ f (low-half 16 i a refl e) (low-half 16 i b refl e)
+    go false t =
+        let e = eqb-false (i % 2) 0 t in
+        sym (high-half 16 i _ refl e) ∙ ap (high 16) word ∙ pow.high _ 16 bounded ∙ ap₂ f (high-half 16 i a refl e) (high-half 16 i b refl e)
+
+long-lane : (i : ℕ) (r : Register) → Held r → i < 2 → lane 64 i r ≡ join 32 (getD (rowOf r) (i + i + 1) 0) (getD (rowOf r) (i + i) 0)
+long-lane i r h l = sym (joined-lanes 32 i r) ∙ ap₂ (join 32) (word-lane (i + i + 1) r h) (word-lane (i + i) r h)
+
+pub at-longs : (f : ℕ → ℕ → ℕ → ℕ) (a b c : Register) → Held a → Held b → Held c → Held (longs₃ f a b c)
+    → (i : ℕ) → i < 2 → lane 64 i (longs₃ f a b c) ≡ f (lane 64 i a) (lane 64 i b) (lane 64 i c)
+at-longs f a b c ha hb hc hr i l =
+    long-lane i _ hr l ∙ in-row i l ∙ sym (λ j. f (long-lane i a ha l j) (long-lane i b hb l j) (long-lane i c hc l j))
+  where
+    long : Register → ℕ → ℕ
+    long r n = join 32 (getD (rowOf r) (n + n + 1) 0) (getD (rowOf r) (n + n) 0)
+
+    in-row : (n : ℕ) → n < 2 → long (longs₃ f a b c) n ≡ f (long a n) (long b n) (long c n)
+    in-row zero m = pow.split (f (long a 0) (long b 0) (long c 0)) 32
+    in-row (suc zero) m = pow.split (f (long a 1) (long b 1) (long c 1)) 32
+    in-row (suc (suc n)) m = absurd (omega arith)

@@ -1,0 +1,107 @@
+// A register of 128 bits, made from and given back as bytes and rows, and the lane operations across whole registers.
+
+ghost use mathlib.Core.Path.{_≡_};
+ghost use Rattle.register.specs.Layout.{lane, rowOf, ofRow, bytesOf, ofBytes};
+
+pub mod bytes;
+pub mod halfwords;
+pub mod multiply;
+pub mod words;
+
+use bytes::word_of_bytes;
+
+// w0 has bits 31 to 0, w3 bits 127 to 96.
+pub struct Register {
+    pub w0: u32,
+    pub w1: u32,
+    pub w2: u32,
+    pub w3: u32,
+}
+
+impl Register {
+    pub const ZERO: Register = Register {
+        w0: 0,
+        w1: 0,
+        w2: 0,
+        w3: 0,
+    };
+
+    pub fn from_bytes(b: [u8; 16]) -> Register
+        ensures { λ r. ⌜ r ≡ ofBytes b ⌝ }
+    {
+        Register {
+            w0: word_of_bytes(b[0], b[1], b[2], b[3]),
+            w1: word_of_bytes(b[4], b[5], b[6], b[7]),
+            w2: word_of_bytes(b[8], b[9], b[10], b[11]),
+            w3: word_of_bytes(b[12], b[13], b[14], b[15]),
+        }
+    }
+
+    pub fn to_bytes(self) -> [u8; 16]
+        ensures { λ r. ⌜ r ≡ bytesOf self ⌝ }
+    {
+        [
+            (self.w0 % 0x100) as u8,
+            (self.w0 / 0x100 % 0x100) as u8,
+            (self.w0 / 0x1_0000 % 0x100) as u8,
+            (self.w0 / 0x100_0000 % 0x100) as u8,
+            (self.w1 % 0x100) as u8,
+            (self.w1 / 0x100 % 0x100) as u8,
+            (self.w1 / 0x1_0000 % 0x100) as u8,
+            (self.w1 / 0x100_0000 % 0x100) as u8,
+            (self.w2 % 0x100) as u8,
+            (self.w2 / 0x100 % 0x100) as u8,
+            (self.w2 / 0x1_0000 % 0x100) as u8,
+            (self.w2 / 0x100_0000 % 0x100) as u8,
+            (self.w3 % 0x100) as u8,
+            (self.w3 / 0x100 % 0x100) as u8,
+            (self.w3 / 0x1_0000 % 0x100) as u8,
+            (self.w3 / 0x100_0000 % 0x100) as u8,
+        ]
+    }
+
+    pub fn from_row(row: [u32; 4]) -> Register
+        ensures { λ r. ⌜ r ≡ ofRow row ⌝ }
+    {
+        Register {
+            w0: row[0],
+            w1: row[1],
+            w2: row[2],
+            w3: row[3],
+        }
+    }
+
+    pub fn to_row(self) -> [u32; 4]
+        ensures { λ r. ⌜ r ≡ rowOf self ⌝ }
+    {
+        [self.w0, self.w1, self.w2, self.w3]
+    }
+
+    pub fn word(self, i: usize) -> u32
+        ensures { λ r. ⌜ r ≡ lane 32 i self ⌝ }
+    {
+        let row = self.to_row();
+        if i < 4 { row[i] } else { 0 }
+    }
+
+    pub fn halfword(self, i: usize) -> u16
+        ensures { λ r. ⌜ r ≡ lane 16 i self ⌝ }
+    {
+        let w = self.word(i / 2);
+        if i % 2 == 0 {
+            (w % 0x1_0000) as u16
+        } else {
+            (w / 0x1_0000) as u16
+        }
+    }
+
+    pub fn long(self, i: usize) -> u64
+        ensures { λ r. ⌜ r ≡ lane 64 i self ⌝ }
+    {
+        if i < 2 {
+            (self.word(i + i + 1) as u64) * 0x1_0000_0000 + (self.word(i + i) as u64)
+        } else {
+            0
+        }
+    }
+}
