@@ -2,14 +2,14 @@
 -- signed number is `subℕ (turned k x) H`, a sum stays such a difference, and the clamp is the test whether its first part is in 0 .. 2^k - 1.
 -- Assumes nothing.
 use Prim.Native.Nat.{ℕ, zero, suc, _+_, _-_, _*_, _%_, _^_, _≤_, _<_}
-use mathlib.Core.Path.{_≡_, refl, sym, ap, ap₂, _∙_}
+use mathlib.Core.Path.{_≡_, sym, ap, ap₂, _∙_}
 use mathlib.Core.Bool.{Bool, true, false}
 use native.Mathlib.Omega.{arith}
 use native.Mathlib.Nat.{pow-suc}
 use borrow.Author.Tests.{lt-ltb, le-ltb}
 use lib.Bits.{bitXor, xor-block, xor-lt, xor-zero-r}
 use lib.Dec.{ltb, lit<}
-use lib.IntN.{ℤ, pos, negsuc, negℤ, subℕ, _+ℤ_, _-ℤ_}
+use lib.IntN.{ℤ, pos, negsuc, subℕ, _+ℤ_, _-ℤ_}
 use lib.Pow.{pow-pos, pow-mono, shl-exact}
 use lib.Signed.{ltZ}
 use Rattle.lanes.specs.Width.{signed, bits, least, greatest, within, clamped}

@@ -1,4 +1,5 @@
--- What each lane operation of document 01's instruction table gives, in the table's order. Operands come in the order rs1, rs2.
+-- What each lane operation of document 01's instruction table gives, in the table's order and by its names, on one lane or one word.
+-- Operands come in the order rs1, rs2. (li, NOP and BCW move or leave whole parts of a register: they have no lane operation.)
 -- Assumes nothing.
 use Prim.Native.Nat.{ℕ, _+_, _*_, _/_, _%_, _^_}
 use mathlib.Core.Bool.{cond}

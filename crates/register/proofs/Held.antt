@@ -1,6 +1,6 @@
 -- Every word of a register that a function is handed has 32 bits: the definitions are over all numbers, so the laws about bits ask for it.
 -- Assumes nothing.
-use Prim.Native.Nat.{ℕ, _<_, _^_}
+use Prim.Native.Nat.{_<_, _^_}
 use mathlib.Core.List.{List}
 use mir.Val.{Val}
 use denote.Laws.{Is}

@@ -2,15 +2,19 @@
 -- the halves of lane i of k + k bits are lanes i + i and i + i + 1 of k bits.
 -- Assumes nothing.
 use Prim.Native.Nat.{ℕ, zero, suc, _+_, _*_, _/_, _%_, _^_, _≤_, _<_}
-use mathlib.Core.Path.{_≡_, sym, ap, ap₂, _∙_}
+use mathlib.Core.Path.{_≡_, refl, sym, ap, ap₂, _∙_}
+use mathlib.Core.Bool.{Bool, true, false}
 use mathlib.Core.List.{List, [], _∷_}
 use native.Mathlib.Omega.{arith}
 use native.Mathlib.Nat.{add-comm, mul-add, add-mul, mul-one, mul-zero, mul-suc, zero-div, zero-mod, div-one}
+use borrow.Author.Tests.{eqb-true, eqb-false}
+use lib.Dec.{eqb}
 use lib.ListN.{getD, List·getD-eq-default}
 use lib.Pow as pow
 use Rattle.lanes.specs.Width.{low, high, join}
 use Rattle.register.specs.declared.Register.{Register}
 use Rattle.register.specs.Layout.{number, lane, rowOf}
+use Rattle.register.specs.Across.{half}
 use Rattle.register.proofs.Held.{Held}
 
 -- ---- numbers in digits of k bits, the lowest first
@@ -70,15 +74,18 @@ pub joined-lanes : (k i : ℕ) (r : Register) → join k (lane k (i + i + 1) r) 
 joined-lanes k i r = ap₂ (join k) (high-lane k i r) (low-lane k i r) ∙ pow.split _ k
 
 -- the same by the place i of the half; w is what the code has for the whole lane
-pub low-half : (k i : ℕ) (r : Register) {w : ℕ} → w ≡ lane (k + k) (i / 2) r → i % 2 ≡ 0 → low k w ≡ lane k i r
-low-half k i r e z =
-    let d : i / 2 + i / 2 ≡ i = omega arith in
-    ap (low k) e ∙ sym (low-lane k (i / 2) r) ∙ ap (λ (j : ℕ). lane k j r) d
-
-pub high-half : (k i : ℕ) (r : Register) {w : ℕ} → w ≡ lane (k + k) (i / 2) r → (i % 2 ≡ 0 → ⊥) → high k w ≡ lane k i r
-high-half k i r e z =
-    let d : i / 2 + i / 2 + 1 ≡ i = omega arith in
-    ap (high k) e ∙ sym (high-lane k (i / 2) r) ∙ ap (λ (j : ℕ). lane k j r) d
+pub half-lane : (k i : ℕ) (r : Register) {w : ℕ} → w ≡ lane (k + k) (i / 2) r → half k (eqb (i % 2) 1) w ≡ lane k i r
+half-lane k i r {w} e = go (eqb (i % 2) 1) refl
+  where
+    go : (t : Bool) → eqb (i % 2) 1 ≡ t → half k t w ≡ lane k i r
+    go true t =
+        let b = eqb-true (i % 2) 1 t in
+        let d : i / 2 + i / 2 + 1 ≡ i = omega arith in
+        ap (high k) e ∙ sym (high-lane k (i / 2) r) ∙ ap (λ (j : ℕ). lane k j r) d
+    go false t =
+        let b = eqb-false (i % 2) 1 t in
+        let d : i / 2 + i / 2 ≡ i = omega arith in
+        ap (low k) e ∙ sym (low-lane k (i / 2) r) ∙ ap (λ (j : ℕ). lane k j r) d
 
 pub no-long : (i : ℕ) (r : Register) → Held r → 2 ≤ i → lane 64 i r ≡ 0
 no-long i r h l =

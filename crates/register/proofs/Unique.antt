@@ -2,6 +2,8 @@
 -- Assumes nothing.
 use mathlib.Core.Path.{refl, sym, _∙_}
 use Rattle.determined.specs.Determined.{Determined}
+use Rattle.register.proofs.Register.zeroed.Kinds as zeroed-kinds
+use Rattle.register.proofs.Register.zeroed.Reads as zeroed-reads
 use Rattle.register.proofs.Register.from_bytes.Kinds as from-bytes-kinds
 use Rattle.register.proofs.Register.from_bytes.Reads as from-bytes-reads
 use Rattle.register.proofs.Register.to_bytes.Kinds as to-bytes-kinds
@@ -48,6 +50,9 @@ use Rattle.register.proofs.words.rotate_right.Kinds as rotate-right-kin
 use Rattle.register.proofs.words.rotate_right.Reads as rotate-right-reads
 use Rattle.register.proofs.words.subtract_from.Kinds as subtract-from-kinds
 use Rattle.register.proofs.words.subtract_from.Reads as subtract-from-reads
+
+pub zeroed-unique : Determined 0 zeroed-kinds.ps zeroed-kinds.r zeroed-reads.Post
+zeroed-unique κs a x y v w p q = (p ∙ sym q, refl)
 
 pub from-bytes-unique : Determined 0 from-bytes-kinds.ps from-bytes-kinds.r from-bytes-reads.Post
 from-bytes-unique κs a x y v w p q = (p ∙ sym q, refl)

@@ -1,6 +1,6 @@
 -- A lane operation across whole registers, and the multiply family. Operands come in the order rs1, rs2, rs3.
 -- Assumes nothing.
-use Prim.Native.Nat.{ℕ, _+_, _*_, _/_, _%_, _^_}
+use Prim.Native.Nat.{ℕ}
 use mathlib.Core.Bool.{Bool, cond}
 use Rattle.lanes.specs.Width.{low, high, join, halves₂}
 use Rattle.lanes.specs.Lane.{multiplyAdd, multiplySubtract}

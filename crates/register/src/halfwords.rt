@@ -2,44 +2,28 @@
 
 ghost use mathlib.Core.Path.{_≡_};
 ghost use Prim.Native.Nat.{ℕ};
-ghost use Rattle.lanes.specs.Width.{low, high, join, halves₂};
+ghost use Rattle.lanes.specs.Width.{halves₂};
 ghost use Rattle.lanes.specs.Lane.{SHRHI, CNTIH, AHS, SFHS};
 ghost use Rattle.register.specs.Across.{words₁, halfwords₂};
 use crate::Register;
+use crate::halves::half_of_word;
+use crate::halves::join_halfwords;
 use lanes::clamped;
-
-fn high_half(w: u32) -> u16
-    ensures { λ r. ⌜ r ≡ high 16 w ⌝ }
-{
-    (w / 0x1_0000) as u16
-}
-
-fn low_half(w: u32) -> u16
-    ensures { λ r. ⌜ r ≡ low 16 w ⌝ }
-{
-    (w % 0x1_0000) as u16
-}
-
-fn join_halves(hi: u16, lo: u16) -> u32
-    ensures { λ r. ⌜ r ≡ join 16 hi lo ⌝ }
-{
-    (hi as u32) * 0x1_0000 + (lo as u32)
-}
 
 fn add_halves(a: u32, b: u32) -> u32
     ensures { λ r. ⌜ r ≡ halves₂ 16 AHS a b ⌝ }
 {
-    let hi = clamped::add_clamped(high_half(a), high_half(b));
-    let lo = clamped::add_clamped(low_half(a), low_half(b));
-    join_halves(hi, lo)
+    let hi = clamped::add_clamped(half_of_word(a, true), half_of_word(b, true));
+    let lo = clamped::add_clamped(half_of_word(a, false), half_of_word(b, false));
+    join_halfwords(hi, lo)
 }
 
 fn subtract_halves_from(a: u32, b: u32) -> u32
     ensures { λ r. ⌜ r ≡ halves₂ 16 SFHS a b ⌝ }
 {
-    let hi = clamped::subtract_from_clamped(high_half(a), high_half(b));
-    let lo = clamped::subtract_from_clamped(low_half(a), low_half(b));
-    join_halves(hi, lo)
+    let hi = clamped::subtract_from_clamped(half_of_word(a, true), half_of_word(b, true));
+    let lo = clamped::subtract_from_clamped(half_of_word(a, false), half_of_word(b, false));
+    join_halfwords(hi, lo)
 }
 
 pub fn shift_right(a: Register, field: u32) -> Register

@@ -1,14 +1,17 @@
 // A register of 128 bits, made from and given back as bytes and rows, and the lane operations across whole registers.
 
 ghost use mathlib.Core.Path.{_≡_};
-ghost use Rattle.register.specs.Layout.{lane, rowOf, ofRow, bytesOf, ofBytes};
+ghost use Rattle.register.specs.Layout.{lane, zeroRegister, rowOf, ofRow, bytesOf, ofBytes};
 
 pub mod bytes;
 pub mod halfwords;
+mod halves;
 pub mod multiply;
 pub mod words;
 
 use bytes::word_of_bytes;
+use halves::half_of_word;
+use halves::join_words;
 
 // w0 has bits 31 to 0, w3 bits 127 to 96.
 pub struct Register {
@@ -25,6 +28,13 @@ impl Register {
         w2: 0,
         w3: 0,
     };
+
+    // The constant, by a contract.
+    pub fn zeroed() -> Register
+        ensures { λ r. ⌜ r ≡ zeroRegister ⌝ }
+    {
+        Register::ZERO
+    }
 
     pub fn from_bytes(b: [u8; 16]) -> Register
         ensures { λ r. ⌜ r ≡ ofBytes b ⌝ }
@@ -87,19 +97,14 @@ impl Register {
     pub fn halfword(self, i: usize) -> u16
         ensures { λ r. ⌜ r ≡ lane 16 i self ⌝ }
     {
-        let w = self.word(i / 2);
-        if i % 2 == 0 {
-            (w % 0x1_0000) as u16
-        } else {
-            (w / 0x1_0000) as u16
-        }
+        half_of_word(self.word(i / 2), i % 2 == 1)
     }
 
     pub fn long(self, i: usize) -> u64
         ensures { λ r. ⌜ r ≡ lane 64 i self ⌝ }
     {
         if i < 2 {
-            (self.word(i + i + 1) as u64) * 0x1_0000_0000 + (self.word(i + i) as u64)
+            join_words(self.word(i + i + 1), self.word(i + i))
         } else {
             0
         }

@@ -1,36 +1,12 @@
 // Multiply-add and multiply-subtract across registers: long, subtract and high are the three bits that choose.
 
 ghost use mathlib.Core.Path.{_≡_};
-ghost use Rattle.lanes.specs.Width.{join};
-ghost use Rattle.register.specs.Across.{words₃, longs₃, half, multiplyLane, multiplied};
+ghost use Rattle.register.specs.Across.{words₃, longs₃, multiplyLane, multiplied};
 use crate::Register;
+use crate::halves::half_of_long;
+use crate::halves::half_of_word;
+use crate::halves::join_words;
 use lanes::clamped;
-
-fn half_of_word(w: u32, high: bool) -> u16
-    ensures { λ r. ⌜ r ≡ half 16 high w ⌝ }
-{
-    if high {
-        (w / 0x1_0000) as u16
-    } else {
-        (w % 0x1_0000) as u16
-    }
-}
-
-fn half_of_long(l: u64, high: bool) -> u32
-    ensures { λ r. ⌜ r ≡ half 32 high l ⌝ }
-{
-    if high {
-        (l / 0x1_0000_0000) as u32
-    } else {
-        (l % 0x1_0000_0000) as u32
-    }
-}
-
-fn join_words(hi: u32, lo: u32) -> u64
-    ensures { λ r. ⌜ r ≡ join 32 hi lo ⌝ }
-{
-    (hi as u64) * 0x1_0000_0000 + (lo as u64)
-}
 
 fn multiply_word(subtract: bool, high: bool, rs1: u32, rs2: u32, rs3: u32) -> u32
     ensures { λ r. ⌜ r ≡ multiplyLane 16 subtract high rs1 rs2 rs3 ⌝ }

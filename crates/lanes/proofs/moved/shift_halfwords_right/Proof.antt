@@ -1,8 +1,7 @@
--- Carried by `shr-le`: a halfword moved right stays a halfword.
-use Prim.Native.Nat.{_/_, _%_}
+-- Carried by `moved-lt` and `join-lt`: a halfword moved right stays a halfword.
 use native.Mathlib.Omega.{arith}
 use borrow.Author.Needs.{needs}
-use lib.Pow.{shr-le}
+use Rattle.lanes.proofs.Words as words
 use Rattle.lanes.proofs.moved.shift_halfwords_right.Statement.{statement}
 use Rattle.lanes.proofs.moved.shift_halfwords_right.Tie as tie
 
@@ -10,13 +9,13 @@ shr-result : tie.Need-shr-result
 shr-result c = search needs
 
 mul-result : tie.Need-mul-result
-mul-result c = omega (arith, shr-le (c .args .w / 65536) (c .args .by % 16))
+mul-result c = record { fits = words.high-fits 16 (words.moved-lt 16 _ (omega arith)) }
 
 shr-result-2 : tie.Need-shr-result-2
 shr-result-2 c = search needs
 
 add-result : tie.Need-add-result
-add-result c = omega (arith, shr-le (c .args .w / 65536) (c .args .by % 16), shr-le (c .args .w % 65536) (c .args .by % 16))
+add-result c = record { fits = words.join-lt 16 (words.moved-lt 16 _ (omega arith)) (words.moved-lt 16 _ (omega arith)) }
 
 returns : tie.Need-returns
 returns c = search needs

@@ -12,10 +12,14 @@ turn-requires-2 : tie.Need-turn-requires-2
 turn-requires-2 c κs = search needs
 
 returns : tie.Need-returns
-returns c = rw (signed.less 32 (lit< tt) _ _ (search needs) (search needs) (c .before .before .turn .ensures .0) (c .before .turn2 .ensures .0) (c .if1 .taken))
+returns c =
+    rw (signed.less 32 (lit< tt) _ _ (search needs) (search needs)
+    (c .before .before .turn .ensures .0) (c .before .turn2 .ensures .0) (c .if1 .taken))
 
 returns-2 : tie.Need-returns-2
-returns-2 c = rw (signed.not-less 32 (lit< tt) _ _ (search needs) (search needs) (c .before .before .turn .ensures .0) (c .before .turn2 .ensures .0) (c .if1 .left))
+returns-2 c =
+    rw (signed.not-less 32 (lit< tt) _ _ (search needs) (search needs)
+    (c .before .before .turn .ensures .0) (c .before .turn2 .ensures .0) (c .if1 .left))
 
 pub smaller-spec : {M : Type 1} → statement M
 smaller-spec = tie.close (tie.spec turn-requires turn-requires-2 returns returns-2)

@@ -20,10 +20,16 @@ turn-requires-3 : tie.Need-turn-requires-3
 turn-requires-3 c κs = search needs
 
 returns : tie.Need-returns
-returns c = (signed.taken-down _ (c .before .before .before .before .before .pre .0) _ _ _ (c .before .before .before .before .before .pre .2) (c .before .if1 .taken) (c .before .before .before .before .turn .ensures .0) (c .before .before .before .lower .ensures) (c .turn2 .ensures .0), c .turn2 .ensures .1)
+returns c =
+    let s = c .before .before .before .before in
+    let moved = signed.taken-down _ (s .before .pre .0) _ _ _ (s .before .pre .2) (c .before .if1 .taken) in
+    (moved (s .turn .ensures .0) (c .before .before .before .lower .ensures) (c .turn2 .ensures .0), c .turn2 .ensures .1)
 
 returns-2 : tie.Need-returns-2
-returns-2 c = (signed.taken-up _ (c .before .before .before .before .before .pre .0) _ _ _ (c .before .before .before .before .before .pre .2) (c .before .if1 .left) (c .before .before .before .before .turn .ensures .0) (c .before .before .raise .ensures .0) (c .turn3 .ensures .0), c .turn3 .ensures .1)
+returns-2 c =
+    let s = c .before .before .before .before in
+    let moved = signed.taken-up _ (s .before .pre .0) _ _ _ (s .before .pre .2) (c .before .if1 .left) in
+    (moved (s .turn .ensures .0) (c .before .before .raise .ensures .0) (c .turn3 .ensures .0), c .turn3 .ensures .1)
 
 pub clamped-sum-spec : {M : Type 1} → statement M
 clamped-sum-spec =

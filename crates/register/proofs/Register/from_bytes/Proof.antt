@@ -65,7 +65,12 @@ word-of-bytes-requires-4 : tie.Need-word-of-bytes-requires-4
 word-of-bytes-requires-4 c κs = search needs
 
 returns : tie.Need-returns
-returns c = made.same (c .before .before .before .word-of-bytes .ensures) (c .before .before .word-of-bytes2 .ensures) (c .before .word-of-bytes3 .ensures) (c .word-of-bytes4 .ensures)
+returns c =
+    made.same
+    (c .before .before .before .word-of-bytes .ensures)
+    (c .before .before .word-of-bytes2 .ensures)
+    (c .before .word-of-bytes3 .ensures)
+    (c .word-of-bytes4 .ensures)
 
 pub from-bytes-spec : {M : Type 1} → statement M
 from-bytes-spec =

@@ -16,26 +16,17 @@ add-word-2 c = search needs
 word-requires : tie.Need-word-requires
 word-requires c κs = search needs
 
-cast-result : tie.Need-cast-result
-cast-result c = search needs
-
-mul-result : tie.Need-mul-result
-mul-result c = search needs
-
 add-word-3 : tie.Need-add-word-3
 add-word-3 c = search needs
 
 word-requires-2 : tie.Need-word-requires-2
 word-requires-2 c κs = search needs
 
-cast-result-2 : tie.Need-cast-result-2
-cast-result-2 c = search needs
-
-add-result : tie.Need-add-result
-add-result c = search needs
+join-words-requires : tie.Need-join-words-requires
+join-words-requires c κs = search needs
 
 returns : tie.Need-returns
-returns c = ap₂ (join 32) (c .before .word .ensures) (c .word2 .ensures) ∙ lanes.joined-lanes 32 _ _
+returns c = c .join-words .ensures ∙ ap₂ (join 32) (c .before .before .word .ensures) (c .before .word2 .ensures) ∙ lanes.joined-lanes 32 _ _
 
 returns-2 : tie.Need-returns-2
 returns-2 c = sym (lanes.no-long _ _ (held (c .before .good .0)) (c .if1 .left))
@@ -47,11 +38,8 @@ long-spec =
     add-word
     add-word-2
     word-requires
-    cast-result
-    mul-result
     add-word-3
     word-requires-2
-    cast-result-2
-    add-result
+    join-words-requires
     returns
     returns-2)

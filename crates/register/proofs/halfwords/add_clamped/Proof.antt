@@ -17,7 +17,12 @@ add-halves-requires-4 : tie.Need-add-halves-requires-4
 add-halves-requires-4 c κs = search needs
 
 returns : tie.Need-returns
-returns c = made.same (c .before .before .before .add-halves .ensures) (c .before .before .add-halves2 .ensures) (c .before .add-halves3 .ensures) (c .add-halves4 .ensures)
+returns c =
+    made.same
+    (c .before .before .before .add-halves .ensures)
+    (c .before .before .add-halves2 .ensures)
+    (c .before .add-halves3 .ensures)
+    (c .add-halves4 .ensures)
 
 pub add-clamped-spec : {M : Type 1} → statement M
 add-clamped-spec =

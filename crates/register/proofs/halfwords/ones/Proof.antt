@@ -17,7 +17,12 @@ ones-in-halfwords-requires-4 : tie.Need-ones-in-halfwords-requires-4
 ones-in-halfwords-requires-4 c κs = search needs
 
 returns : tie.Need-returns
-returns c = made.same (c .before .before .before .ones-in-halfwords .ensures) (c .before .before .ones-in-halfwords2 .ensures) (c .before .ones-in-halfwords3 .ensures) (c .ones-in-halfwords4 .ensures)
+returns c =
+    made.same
+    (c .before .before .before .ones-in-halfwords .ensures)
+    (c .before .before .ones-in-halfwords2 .ensures)
+    (c .before .ones-in-halfwords3 .ensures)
+    (c .ones-in-halfwords4 .ensures)
 
 pub ones-spec : {M : Type 1} → statement M
 ones-spec =

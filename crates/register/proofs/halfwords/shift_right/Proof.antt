@@ -17,7 +17,12 @@ shift-halfwords-right-requires-4 : tie.Need-shift-halfwords-right-requires-4
 shift-halfwords-right-requires-4 c κs = search needs
 
 returns : tie.Need-returns
-returns c = made.same (c .before .before .before .shift-halfwords-right .ensures) (c .before .before .shift-halfwords-right2 .ensures) (c .before .shift-halfwords-right3 .ensures) (c .shift-halfwords-right4 .ensures)
+returns c =
+    made.same
+    (c .before .before .before .shift-halfwords-right .ensures)
+    (c .before .before .shift-halfwords-right2 .ensures)
+    (c .before .shift-halfwords-right3 .ensures)
+    (c .shift-halfwords-right4 .ensures)
 
 pub shift-right-spec : {M : Type 1} → statement M
 shift-right-spec =

@@ -17,7 +17,12 @@ subtract-halves-from-requires-4 : tie.Need-subtract-halves-from-requires-4
 subtract-halves-from-requires-4 c κs = search needs
 
 returns : tie.Need-returns
-returns c = made.same (c .before .before .before .subtract-halves-from .ensures) (c .before .before .subtract-halves-from2 .ensures) (c .before .subtract-halves-from3 .ensures) (c .subtract-halves-from4 .ensures)
+returns c =
+    made.same
+    (c .before .before .before .subtract-halves-from .ensures)
+    (c .before .before .subtract-halves-from2 .ensures)
+    (c .before .subtract-halves-from3 .ensures)
+    (c .subtract-halves-from4 .ensures)
 
 pub subtract-from-clamped-spec : {M : Type 1} → statement M
 subtract-from-clamped-spec =

@@ -5,39 +5,44 @@ use Rattle.register.proofs.Made as made
 use Rattle.register.proofs.halfwords.subtract_halves_from.Statement.{statement}
 use Rattle.register.proofs.halfwords.subtract_halves_from.Tie as tie
 
-high-half-requires : tie.Need-high-half-requires
-high-half-requires c κs = search needs
+half-of-word-requires : tie.Need-half-of-word-requires
+half-of-word-requires c κs = search needs
 
-high-half-requires-2 : tie.Need-high-half-requires-2
-high-half-requires-2 c κs = search needs
+half-of-word-requires-2 : tie.Need-half-of-word-requires-2
+half-of-word-requires-2 c κs = search needs
 
 subtract-from-clamped-requires : tie.Need-subtract-from-clamped-requires
 subtract-from-clamped-requires c κs = search needs
 
-low-half-requires : tie.Need-low-half-requires
-low-half-requires c κs = search needs
+half-of-word-requires-3 : tie.Need-half-of-word-requires-3
+half-of-word-requires-3 c κs = search needs
 
-low-half-requires-2 : tie.Need-low-half-requires-2
-low-half-requires-2 c κs = search needs
+half-of-word-requires-4 : tie.Need-half-of-word-requires-4
+half-of-word-requires-4 c κs = search needs
 
 subtract-from-clamped-requires-2 : tie.Need-subtract-from-clamped-requires-2
 subtract-from-clamped-requires-2 c κs = search needs
 
-join-halves-requires : tie.Need-join-halves-requires
-join-halves-requires c κs = search needs
+join-halfwords-requires : tie.Need-join-halfwords-requires
+join-halfwords-requires c κs = search needs
 
 returns : tie.Need-returns
-returns c = made.halves-joined SFHS _ _ (c .before .before .before .before .before .before .high-half .ensures) (c .before .before .before .before .before .high-half2 .ensures) (c .before .before .before .before .subtract-from-clamped .ensures) (c .before .before .before .low-half .ensures) (c .before .before .low-half2 .ensures) (c .before .subtract-from-clamped2 .ensures) (c .join-halves .ensures)
+returns c =
+    let hi = c .before .before .before .before in
+    made.halves-joined SFHS _ _
+    (hi .before .before .half-of-word .ensures) (hi .before .half-of-word2 .ensures) (hi .subtract-from-clamped .ensures)
+    (c .before .before .before .half-of-word3 .ensures) (c .before .before .half-of-word4 .ensures) (c .before .subtract-from-clamped2 .ensures)
+    (c .join-halfwords .ensures)
 
 pub subtract-halves-from-spec : {M : Type 1} → statement M
 subtract-halves-from-spec =
     tie.close
     (tie.spec
-    high-half-requires
-    high-half-requires-2
+    half-of-word-requires
+    half-of-word-requires-2
     subtract-from-clamped-requires
-    low-half-requires
-    low-half-requires-2
+    half-of-word-requires-3
+    half-of-word-requires-4
     subtract-from-clamped-requires-2
-    join-halves-requires
+    join-halfwords-requires
     returns)

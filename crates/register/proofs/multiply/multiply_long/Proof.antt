@@ -16,10 +16,14 @@ multiply-add-32-requires : tie.Need-multiply-add-32-requires
 multiply-add-32-requires c κs = search needs
 
 returns : tie.Need-returns
-returns c = rw (c .before .if1 .taken) (rw (c .before .before .before .half-of-long .ensures, c .before .before .half-of-long2 .ensures) at (c .multiply-subtract-32 .ensures))
+returns c =
+    rw (c .before .if1 .taken)
+    (rw (c .before .before .before .half-of-long .ensures, c .before .before .half-of-long2 .ensures) at (c .multiply-subtract-32 .ensures))
 
 returns-2 : tie.Need-returns-2
-returns-2 c = rw (c .before .if1 .left) (rw (c .before .before .before .half-of-long .ensures, c .before .before .half-of-long2 .ensures) at (c .multiply-add-32 .ensures))
+returns-2 c =
+    rw (c .before .if1 .left)
+    (rw (c .before .before .before .half-of-long .ensures, c .before .before .half-of-long2 .ensures) at (c .multiply-add-32 .ensures))
 
 pub multiply-long-spec : {M : Type 1} → statement M
 multiply-long-spec =

@@ -41,7 +41,18 @@ half-of-long-requires-4 : tie.Need-half-of-long-requires-4
 half-of-long-requires-4 c κs = search needs
 
 returns : tie.Need-returns
-returns c = made.longs-split _ _ (rw (c .before .before .before .before .before .before .before .before .before .before .before .join-words .ensures, c .before .before .before .before .before .before .before .before .before .before .join-words2 .ensures, c .before .before .before .before .before .before .before .before .before .join-words3 .ensures) at (c .before .before .before .before .before .before .before .before .multiply-long .ensures)) (rw (c .before .before .before .before .before .before .before .join-words4 .ensures, c .before .before .before .before .before .before .join-words5 .ensures, c .before .before .before .before .before .join-words6 .ensures) at (c .before .before .before .before .multiply-long2 .ensures)) (c .before .before .before .half-of-long .ensures) (c .before .before .half-of-long2 .ensures) (c .before .half-of-long3 .ensures) (c .half-of-long4 .ensures)
+returns c =
+    let l0 = c .before .before .before .before in
+    let l1 = l0 .before .before .before .before in
+    made.longs-split _ _
+    (rw (l1 .before .before .before .join-words .ensures, l1 .before .before .join-words2 .ensures, l1 .before .join-words3 .ensures)
+    at (l1 .multiply-long .ensures))
+    (rw (l0 .before .before .before .join-words4 .ensures, l0 .before .before .join-words5 .ensures, l0 .before .join-words6 .ensures)
+    at (l0 .multiply-long2 .ensures))
+    (c .before .before .before .half-of-long .ensures)
+    (c .before .before .half-of-long2 .ensures)
+    (c .before .half-of-long3 .ensures)
+    (c .half-of-long4 .ensures)
 
 pub multiply-longs-spec : {M : Type 1} → statement M
 multiply-longs-spec =

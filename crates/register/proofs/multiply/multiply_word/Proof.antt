@@ -16,10 +16,14 @@ multiply-add-16-requires : tie.Need-multiply-add-16-requires
 multiply-add-16-requires c κs = search needs
 
 returns : tie.Need-returns
-returns c = rw (c .before .if1 .taken) (rw (c .before .before .before .half-of-word .ensures, c .before .before .half-of-word2 .ensures) at (c .multiply-subtract-16 .ensures))
+returns c =
+    rw (c .before .if1 .taken)
+    (rw (c .before .before .before .half-of-word .ensures, c .before .before .half-of-word2 .ensures) at (c .multiply-subtract-16 .ensures))
 
 returns-2 : tie.Need-returns-2
-returns-2 c = rw (c .before .if1 .left) (rw (c .before .before .before .half-of-word .ensures, c .before .before .half-of-word2 .ensures) at (c .multiply-add-16 .ensures))
+returns-2 c =
+    rw (c .before .if1 .left)
+    (rw (c .before .before .before .half-of-word .ensures, c .before .before .half-of-word2 .ensures) at (c .multiply-add-16 .ensures))
 
 pub multiply-word-spec : {M : Type 1} → statement M
 multiply-word-spec =

@@ -17,7 +17,12 @@ multiply-word-requires-4 : tie.Need-multiply-word-requires-4
 multiply-word-requires-4 c κs = search needs
 
 returns : tie.Need-returns
-returns c = made.same (c .before .before .before .multiply-word .ensures) (c .before .before .multiply-word2 .ensures) (c .before .multiply-word3 .ensures) (c .multiply-word4 .ensures)
+returns c =
+    made.same
+    (c .before .before .before .multiply-word .ensures)
+    (c .before .before .multiply-word2 .ensures)
+    (c .before .multiply-word3 .ensures)
+    (c .multiply-word4 .ensures)
 
 pub multiply-words-spec : {M : Type 1} → statement M
 multiply-words-spec =

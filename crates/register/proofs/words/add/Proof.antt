@@ -17,7 +17,12 @@ add-requires-4 : tie.Need-add-requires-4
 add-requires-4 c κs = search needs
 
 returns : tie.Need-returns
-returns c = made.same (c .before .before .before .add .ensures) (c .before .before .add2 .ensures) (c .before .add3 .ensures) (c .add4 .ensures)
+returns c =
+    made.same
+    (c .before .before .before .add .ensures)
+    (c .before .before .add2 .ensures)
+    (c .before .add3 .ensures)
+    (c .add4 .ensures)
 
 pub add-spec : {M : Type 1} → statement M
 add-spec = tie.close (tie.spec add-requires add-requires-2 add-requires-3 add-requires-4 returns)

@@ -17,7 +17,12 @@ and-requires-4 : tie.Need-and-requires-4
 and-requires-4 c κs = search needs
 
 returns : tie.Need-returns
-returns c = made.same (c .before .before .before .and .ensures) (c .before .before .and2 .ensures) (c .before .and3 .ensures) (c .and4 .ensures)
+returns c =
+    made.same
+    (c .before .before .before .and .ensures)
+    (c .before .before .and2 .ensures)
+    (c .before .and3 .ensures)
+    (c .and4 .ensures)
 
 pub and-spec : {M : Type 1} → statement M
 and-spec = tie.close (tie.spec and-requires and-requires-2 and-requires-3 and-requires-4 returns)

@@ -17,7 +17,12 @@ larger-requires-4 : tie.Need-larger-requires-4
 larger-requires-4 c κs = search needs
 
 returns : tie.Need-returns
-returns c = made.same (c .before .before .before .larger .ensures) (c .before .before .larger2 .ensures) (c .before .larger3 .ensures) (c .larger4 .ensures)
+returns c =
+    made.same
+    (c .before .before .before .larger .ensures)
+    (c .before .before .larger2 .ensures)
+    (c .before .larger3 .ensures)
+    (c .larger4 .ensures)
 
 pub larger-spec : {M : Type 1} → statement M
 larger-spec =

@@ -17,7 +17,12 @@ leading-zeros-requires-4 : tie.Need-leading-zeros-requires-4
 leading-zeros-requires-4 c κs = search needs
 
 returns : tie.Need-returns
-returns c = made.same (c .before .before .before .leading-zeros .ensures) (c .before .before .leading-zeros2 .ensures) (c .before .leading-zeros3 .ensures) (c .leading-zeros4 .ensures)
+returns c =
+    made.same
+    (c .before .before .before .leading-zeros .ensures)
+    (c .before .before .leading-zeros2 .ensures)
+    (c .before .leading-zeros3 .ensures)
+    (c .leading-zeros4 .ensures)
 
 pub leading-zeros-spec : {M : Type 1} → statement M
 leading-zeros-spec =

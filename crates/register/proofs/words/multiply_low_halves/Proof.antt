@@ -17,7 +17,12 @@ multiply-low-halves-requires-4 : tie.Need-multiply-low-halves-requires-4
 multiply-low-halves-requires-4 c κs = search needs
 
 returns : tie.Need-returns
-returns c = made.same (c .before .before .before .multiply-low-halves .ensures) (c .before .before .multiply-low-halves2 .ensures) (c .before .multiply-low-halves3 .ensures) (c .multiply-low-halves4 .ensures)
+returns c =
+    made.same
+    (c .before .before .before .multiply-low-halves .ensures)
+    (c .before .before .multiply-low-halves2 .ensures)
+    (c .before .multiply-low-halves3 .ensures)
+    (c .multiply-low-halves4 .ensures)
 
 pub multiply-low-halves-spec : {M : Type 1} → statement M
 multiply-low-halves-spec =

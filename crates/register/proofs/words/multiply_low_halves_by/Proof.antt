@@ -17,7 +17,12 @@ multiply-low-half-by-requires-4 : tie.Need-multiply-low-half-by-requires-4
 multiply-low-half-by-requires-4 c κs = search needs
 
 returns : tie.Need-returns
-returns c = made.same (c .before .before .before .multiply-low-half-by .ensures) (c .before .before .multiply-low-half-by2 .ensures) (c .before .multiply-low-half-by3 .ensures) (c .multiply-low-half-by4 .ensures)
+returns c =
+    made.same
+    (c .before .before .before .multiply-low-half-by .ensures)
+    (c .before .before .multiply-low-half-by2 .ensures)
+    (c .before .multiply-low-half-by3 .ensures)
+    (c .multiply-low-half-by4 .ensures)
 
 pub multiply-low-halves-by-spec : {M : Type 1} → statement M
 multiply-low-halves-by-spec =

@@ -17,7 +17,12 @@ or-requires-4 : tie.Need-or-requires-4
 or-requires-4 c κs = search needs
 
 returns : tie.Need-returns
-returns c = made.same (c .before .before .before .or .ensures) (c .before .before .or2 .ensures) (c .before .or3 .ensures) (c .or4 .ensures)
+returns c =
+    made.same
+    (c .before .before .before .or .ensures)
+    (c .before .before .or2 .ensures)
+    (c .before .or3 .ensures)
+    (c .or4 .ensures)
 
 pub or-spec : {M : Type 1} → statement M
 or-spec = tie.close (tie.spec or-requires or-requires-2 or-requires-3 or-requires-4 returns)

@@ -17,7 +17,12 @@ rotate-right-requires-4 : tie.Need-rotate-right-requires-4
 rotate-right-requires-4 c κs = search needs
 
 returns : tie.Need-returns
-returns c = made.same (c .before .before .before .rotate-right .ensures) (c .before .before .rotate-right2 .ensures) (c .before .rotate-right3 .ensures) (c .rotate-right4 .ensures)
+returns c =
+    made.same
+    (c .before .before .before .rotate-right .ensures)
+    (c .before .before .rotate-right2 .ensures)
+    (c .before .rotate-right3 .ensures)
+    (c .rotate-right4 .ensures)
 
 pub rotate-right-spec : {M : Type 1} → statement M
 rotate-right-spec =

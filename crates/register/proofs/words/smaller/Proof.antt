@@ -17,7 +17,12 @@ smaller-requires-4 : tie.Need-smaller-requires-4
 smaller-requires-4 c κs = search needs
 
 returns : tie.Need-returns
-returns c = made.same (c .before .before .before .smaller .ensures) (c .before .before .smaller2 .ensures) (c .before .smaller3 .ensures) (c .smaller4 .ensures)
+returns c =
+    made.same
+    (c .before .before .before .smaller .ensures)
+    (c .before .before .smaller2 .ensures)
+    (c .before .smaller3 .ensures)
+    (c .smaller4 .ensures)
 
 pub smaller-spec : {M : Type 1} → statement M
 smaller-spec =

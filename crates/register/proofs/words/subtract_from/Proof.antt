@@ -17,7 +17,12 @@ subtract-from-requires-4 : tie.Need-subtract-from-requires-4
 subtract-from-requires-4 c κs = search needs
 
 returns : tie.Need-returns
-returns c = made.same (c .before .before .before .subtract-from .ensures) (c .before .before .subtract-from2 .ensures) (c .before .subtract-from3 .ensures) (c .subtract-from4 .ensures)
+returns c =
+    made.same
+    (c .before .before .before .subtract-from .ensures)
+    (c .before .before .subtract-from2 .ensures)
+    (c .before .subtract-from3 .ensures)
+    (c .subtract-from4 .ensures)
 
 pub subtract-from-spec : {M : Type 1} → statement M
 subtract-from-spec =

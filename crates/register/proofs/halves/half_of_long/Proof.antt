@@ -1,7 +1,7 @@
 -- Carried by the test alone.
 use borrow.Author.Needs.{needs}
-use Rattle.register.proofs.multiply.half_of_word.Statement.{statement}
-use Rattle.register.proofs.multiply.half_of_word.Tie as tie
+use Rattle.register.proofs.halves.half_of_long.Statement.{statement}
+use Rattle.register.proofs.halves.half_of_long.Tie as tie
 
 cast-result : tie.Need-cast-result
 cast-result c = search needs
@@ -15,5 +15,5 @@ returns c = rw (c .if1 .taken)
 returns-2 : tie.Need-returns-2
 returns-2 c = rw (c .if1 .left)
 
-pub half-of-word-spec : {M : Type 1} → statement M
-half-of-word-spec = tie.close (tie.spec cast-result cast-result-2 returns returns-2)
+pub half-of-long-spec : {M : Type 1} → statement M
+half-of-long-spec = tie.close (tie.spec cast-result cast-result-2 returns returns-2)
