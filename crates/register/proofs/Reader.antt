@@ -1,18 +1,19 @@
--- For the reader of specs/: both ways through rows and through bytes give back what went in, and an operation across registers is that operation at
--- every lane, as document 01 numbers lanes.
+-- For the reader of specs/: both ways through rows and through bytes give back what went in, an operation across registers is that operation at
+-- every lane, as document 01 numbers lanes, and a halfword that is set leaves the other seven as they were.
 -- Assumes nothing.
 use Prim.Native.Nat.{ℕ, zero, suc, _+_, _*_, _/_, _%_, _^_, _<_}
 use mathlib.Core.Path.{_≡_, refl, sym, ap, ap₂, _∙_}
-use mathlib.Core.Bool.{Bool, true, false}
+use mathlib.Core.Bool.{Bool, true, false, cond}
 use mathlib.Core.List.{List, []}
 use native.Mathlib.Omega.{arith}
+use borrow.Author.Tests.{eq-eqb, ne-eqb, eqb-true, eqb-false}
 use lib.Dec.{eqb}
 use lib.ListN.{length, getD}
 use lib.Pow as pow
 use Rattle.lanes.specs.Width.{low, high, join, halves₂}
 use Rattle.lanes.proofs.Words.{join-lt}
 use Rattle.register.specs.declared.Register.{Register}
-use Rattle.register.specs.Layout.{lane, rowOf, ofRow, ofBytes, bytesOf, bytesOfWord}
+use Rattle.register.specs.Layout.{lane, rowOf, ofRow, ofBytes, bytesOf, bytesOfWord, withHalf, withHalfword}
 use Rattle.register.specs.Across.{words₃, halfwords₂, ofLongs, longs₃, half}
 use Rattle.register.proofs.Held.{Held}
 use Rattle.register.proofs.Lanes.{value, digit-at, number-in-words, word-lane, joined-lanes, half-lane}
@@ -128,3 +129,73 @@ at-longs f keeps a b c ha hb hc i l =
     in-row zero m = pow.split (f (long a 0) (long b 0) (long c 0)) 32
     in-row (suc zero) m = pow.split (f (long a 1) (long b 1) (long c 1)) 32
     in-row (suc (suc n)) m = absurd (omega arith)
+
+-- ---- one halfword set, the other seven kept
+
+equal : (a b : ℕ) {P : Type 0} → (a ≡ b → P) → ((a ≡ b → ⊥) → P) → P
+equal a b {P} same other = go (eqb a b) refl
+  where
+    go : (t : Bool) → eqb a b ≡ t → P
+    go true e = same (eqb-true a b e)
+    go false e = other (eqb-false a b e)
+
+module _ (i v k w : ℕ) (fits : v < 2 ^ 16) where
+  low-set : low 16 (withHalf i v k w) ≡ cond (eqb k i) v (low 16 w)
+  unfolding withHalf
+  low-set =
+      equal i k
+      (λ e. rw (eq-eqb i k e, eq-eqb k i (sym e)) (pow.low (high 16 w) 16 fits))
+      (λ n. rw (ne-eqb i k n, ne-eqb k i (λ e. n (sym e))) (equal i (k + 1)
+      (λ e. rw (eq-eqb i (k + 1) e) (pow.low v 16 (omega arith)))
+      (λ m. rw (ne-eqb i (k + 1) m))))
+
+  high-set : high 16 (withHalf i v k w) ≡ cond (eqb (k + 1) i) v (high 16 w)
+  unfolding withHalf
+  high-set =
+      equal i k
+      (λ e. rw (eq-eqb i k e, ne-eqb (k + 1) i (λ f. omega arith)) (pow.high (high 16 w) 16 fits))
+      (λ n. rw (ne-eqb i k n) (equal i (k + 1)
+      (λ e. rw (eq-eqb i (k + 1) e, eq-eqb (k + 1) i (sym e)) (pow.high v 16 (omega arith)))
+      (λ m. rw (ne-eqb i (k + 1) m, ne-eqb (k + 1) i (λ e. m (sym e))))))
+
+  set-fits : w < 2 ^ 32 → withHalf i v k w < 2 ^ 32
+  unfolding withHalf
+  set-fits l =
+      equal i k
+      (λ e. rw (eq-eqb i k e) (join-lt 16 {hi = high 16 w} (omega arith) fits))
+      (λ n. rw (ne-eqb i k n) (equal i (k + 1)
+      (λ e. rw (eq-eqb i (k + 1) e) (join-lt 16 {lo = low 16 w} fits (omega arith)))
+      (λ m. rw (ne-eqb i (k + 1) m) l)))
+
+pub at-halfword : (i v : ℕ) → v < 2 ^ 16 → (r : Register) → Held r
+    → (j : ℕ) → j < 8 → lane 16 j (withHalfword i v r) ≡ cond (eqb j i) v (lane 16 j r)
+at-halfword i v fits r h j l =
+    sym (half-lane 16 j _ refl) ∙ go (eqb (j % 2) 1) refl ∙ ap (λ (x : ℕ). cond (eqb j i) v x) (half-lane 16 j r refl)
+  where
+    set : Held (withHalfword i v r)
+    set = record {
+      w0-fits = set-fits i v 0 (r .w0) fits (h .w0-fits);
+      w1-fits = set-fits i v 2 (r .w1) fits (h .w1-fits);
+      w2-fits = set-fits i v 4 (r .w2) fits (h .w2-fits);
+      w3-fits = set-fits i v 6 (r .w3) fits (h .w3-fits);
+    }
+
+    in-row : (n : ℕ) → n < 4 → getD (rowOf (withHalfword i v r)) n 0 ≡ withHalf i v (n + n) (getD (rowOf r) n 0)
+    in-row zero m = refl
+    in-row (suc zero) m = refl
+    in-row (suc (suc zero)) m = refl
+    in-row (suc (suc (suc zero))) m = refl
+    in-row (suc (suc (suc (suc n)))) m = absurd (omega arith)
+
+    word : lane 32 (j / 2) (withHalfword i v r) ≡ withHalf i v (j / 2 + j / 2) (lane 32 (j / 2) r)
+    word = word-lane (j / 2) _ set ∙ in-row (j / 2) (omega arith) ∙ ap (withHalf i v (j / 2 + j / 2)) (sym (word-lane (j / 2) r h))
+
+    go : (t : Bool) → eqb (j % 2) 1 ≡ t → half 16 t (lane 32 (j / 2) (withHalfword i v r)) ≡ cond (eqb j i) v (half 16 t (lane 32 (j / 2) r))
+    go true t =
+        let b = eqb-true (j % 2) 1 t in
+        let e : j / 2 + j / 2 + 1 ≡ j = omega arith in
+        ap (high 16) word ∙ high-set i v _ _ fits ∙ ap (λ (n : ℕ). cond (eqb n i) v (high 16 (lane 32 (j / 2) r))) e
+    go false t =
+        let b = eqb-false (j % 2) 1 t in
+        let e : j / 2 + j / 2 ≡ j = omega arith in
+        ap (low 16) word ∙ low-set i v _ _ fits ∙ ap (λ (n : ℕ). cond (eqb n i) v (low 16 (lane 32 (j / 2) r))) e

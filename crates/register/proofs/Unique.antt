@@ -18,6 +18,8 @@ use Rattle.register.proofs.Register.halfword.Kinds as halfword-kinds
 use Rattle.register.proofs.Register.halfword.Reads as halfword-reads
 use Rattle.register.proofs.Register.long.Kinds as long-kinds
 use Rattle.register.proofs.Register.long.Reads as long-reads
+use Rattle.register.proofs.Register.with_halfword.Kinds as with-halfword-kinds
+use Rattle.register.proofs.Register.with_halfword.Reads as with-halfword-reads
 use Rattle.register.proofs.bytes.word_of_bytes.Kinds as word-of-bytes-kinds
 use Rattle.register.proofs.bytes.word_of_bytes.Reads as word-of-bytes-reads
 use Rattle.register.proofs.multiply.multiply.Kinds as multiply-kinds
@@ -34,6 +36,8 @@ use Rattle.register.proofs.words.add.Kinds as add-kinds
 use Rattle.register.proofs.words.add.Reads as add-reads
 use Rattle.register.proofs.words.or.Kinds as or-kinds
 use Rattle.register.proofs.words.or.Reads as or-reads
+use Rattle.register.proofs.words.broadcast.Kinds as broadcast-kinds
+use Rattle.register.proofs.words.broadcast.Reads as broadcast-reads
 use Rattle.register.proofs.words.larger.Kinds as larger-kinds
 use Rattle.register.proofs.words.larger.Reads as larger-reads
 use Rattle.register.proofs.words.smaller.Kinds as smaller-kinds
@@ -75,6 +79,9 @@ halfword-unique κs a x y v w p q = (p ∙ sym q, refl)
 pub long-unique : Determined 0 long-kinds.ps long-kinds.r long-reads.Post
 long-unique κs a x y v w p q = (p ∙ sym q, refl)
 
+pub with-halfword-unique : Determined 0 with-halfword-kinds.ps with-halfword-kinds.r with-halfword-reads.Post
+with-halfword-unique κs a x y v w p q = (p ∙ sym q, refl)
+
 pub word-of-bytes-unique : Determined 0 word-of-bytes-kinds.ps word-of-bytes-kinds.r word-of-bytes-reads.Post
 word-of-bytes-unique κs a x y v w p q = (p ∙ sym q, refl)
 
@@ -98,6 +105,9 @@ add-unique κs a x y v w p q = (p ∙ sym q, refl)
 
 pub or-unique : Determined 0 or-kinds.ps or-kinds.r or-reads.Post
 or-unique κs a x y v w p q = (p ∙ sym q, refl)
+
+pub broadcast-unique : Determined 0 broadcast-kinds.ps broadcast-kinds.r broadcast-reads.Post
+broadcast-unique κs a x y v w p q = (p ∙ sym q, refl)
 
 pub larger-unique : Determined 0 larger-kinds.ps larger-kinds.r larger-reads.Post
 larger-unique κs a x y v w p q = (p ∙ sym q, refl)

@@ -1,8 +1,11 @@
 -- A register of 128 bits: how document 01 numbers its parts, its zero, its row and its bytes.
 -- Assumes nothing.
 use Prim.Native.Nat.{ℕ, _+_, _*_, _/_, _%_, _^_}
+use mathlib.Core.Bool.{cond}
 use mathlib.Core.List.{List, [], _∷_}
+use lib.Dec.{eqb}
 use lib.ListN.{getD}
+use Rattle.lanes.specs.Width.{low, high, join}
 use Rattle.register.specs.declared.Register.{Register}
 
 -- "Bit 127 is leftmost": the 128 bits as one number, word 3 leftmost
@@ -40,3 +43,10 @@ ofBytes l = record { w0 = wordAt l 0; w1 = wordAt l 4; w2 = wordAt l 8; w3 = wor
 
 abbrev pub bytesOf : Register → List ℕ
 bytesOf r = bytesOfWord (r .w0) (bytesOfWord (r .w1) (bytesOfWord (r .w2) (bytesOfWord (r .w3) [])))
+
+-- "The halfword of rd with that index becomes the immediate; the other seven keep": in the word of halfwords k and k + 1, halfword i becomes v
+unfoldable pub withHalf : ℕ → ℕ → ℕ → ℕ → ℕ
+withHalf i v k w = cond (eqb i k) (join 16 (high 16 w) v) (cond (eqb i (k + 1)) (join 16 v (low 16 w)) w)
+
+abbrev pub withHalfword : ℕ → ℕ → Register → Register
+withHalfword i v r = record { w0 = withHalf i v 0 (r .w0); w1 = withHalf i v 2 (r .w1); w2 = withHalf i v 4 (r .w2); w3 = withHalf i v 6 (r .w3) }

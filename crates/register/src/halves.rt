@@ -2,6 +2,8 @@
 
 ghost use mathlib.Core.Path.{_≡_};
 ghost use Rattle.lanes.specs.Width.{join};
+ghost use Prim.Native.Nat.{_<_};
+ghost use Rattle.register.specs.Layout.{withHalf};
 ghost use Rattle.register.specs.Across.{half};
 
 pub(crate) fn half_of_word(w: u32, high: bool) -> u16
@@ -34,4 +36,18 @@ pub(crate) fn join_words(hi: u32, lo: u32) -> u64
     ensures { λ r. ⌜ r ≡ join 32 hi lo ⌝ }
 {
     (hi as u64) * 0x1_0000_0000 + (lo as u64)
+}
+
+// The word of halfwords k and k + 1, with halfword i of the register set to v.
+pub(crate) fn put_half(w: u32, k: usize, i: usize, v: u16) -> u32
+    requires { ⌜ k < 8 ⌝ }
+    ensures { λ r. ⌜ r ≡ withHalf i v k w ⌝ }
+{
+    if i == k {
+        return join_halfwords(half_of_word(w, true), v);
+    }
+    if i == k + 1 {
+        return join_halfwords(v, half_of_word(w, false));
+    }
+    w
 }

@@ -1,7 +1,7 @@
 // A register of 128 bits, made from and given back as bytes and rows, and the lane operations across whole registers.
 
 ghost use mathlib.Core.Path.{_≡_};
-ghost use Rattle.register.specs.Layout.{lane, zeroRegister, rowOf, ofRow, bytesOf, ofBytes};
+ghost use Rattle.register.specs.Layout.{lane, zeroRegister, rowOf, ofRow, bytesOf, ofBytes, withHalfword};
 
 pub mod bytes;
 pub mod halfwords;
@@ -12,6 +12,7 @@ pub mod words;
 use bytes::word_of_bytes;
 use halves::half_of_word;
 use halves::join_words;
+use halves::put_half;
 
 // w0 has bits 31 to 0, w3 bits 127 to 96.
 pub struct Register {
@@ -107,6 +108,18 @@ impl Register {
             join_words(self.word(i + i + 1), self.word(i + i))
         } else {
             0
+        }
+    }
+
+    // Beyond halfword 7 there is nothing to set.
+    pub fn with_halfword(self, i: usize, v: u16) -> Register
+        ensures { λ r. ⌜ r ≡ withHalfword i v self ⌝ }
+    {
+        Register {
+            w0: put_half(self.w0, 0, i, v),
+            w1: put_half(self.w1, 2, i, v),
+            w2: put_half(self.w2, 4, i, v),
+            w3: put_half(self.w3, 6, i, v),
         }
     }
 }

@@ -28,6 +28,18 @@ pub fn or(a: Register, b: Register) -> Register
     }
 }
 
+// Word 3, the leftmost one.
+pub fn broadcast(a: Register) -> Register
+    ensures { λ r. ⌜ r ≡ words₁ (λ (w : ℕ). a .w3) a ⌝ }
+{
+    Register {
+        w0: a.w3,
+        w1: a.w3,
+        w2: a.w3,
+        w3: a.w3,
+    }
+}
+
 pub fn larger(a: Register, b: Register) -> Register
     ensures { λ r. ⌜ r ≡ words₂ MAXWS a b ⌝ }
 {
