@@ -1,0 +1,5 @@
+pub mod Rows
+pub mod Places
+pub mod Reader
+pub mod Bench
+pub mod Unique

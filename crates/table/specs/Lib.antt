@@ -1,0 +1,4 @@
+pub mod Fields
+pub mod Operation
+pub mod Gives
+pub mod Refusal

@@ -1,0 +1,28 @@
+// The published instruction table: the fields of a word, what it reads, what it writes, and what it gives from its operands.
+
+pub mod fields;
+pub mod gives;
+pub mod operands;
+pub mod refusal;
+pub mod writes;
+
+// A register's number, 0 to 31.
+pub struct Pointer(pub u8);
+
+// A number of program lines, 0 to 64.
+pub struct Count(pub u8);
+
+// Which fields of a word name registers that it reads: the entries of the table's "reads" column, the multiply family's and li's.
+pub enum Reads {
+    Nothing,
+    Rs1,
+    Rs1Rs2,
+    Rs1Rs2Rs3,
+    Rd,
+}
+
+// The register that a word writes, or none.
+pub enum Target {
+    None,
+    To(Pointer),
+}
