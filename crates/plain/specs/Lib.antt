@@ -1,0 +1,3 @@
+pub mod Machine
+pub mod Answer
+pub mod Inside
