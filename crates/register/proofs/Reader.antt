@@ -59,10 +59,18 @@ byte-lane i r h =
 abbrev pub Keeps : ℕ → (ℕ → ℕ → ℕ → ℕ) → Type 0
 Keeps k f = (x y z : ℕ) → x < 2 ^ k → y < 2 ^ k → z < 2 ^ k → f x y z < 2 ^ k
 
+-- a row whose four words are g 0 to g 3
+word-by-word : (g : ℕ → ℕ) (r : Register) → r .w0 ≡ g 0 → r .w1 ≡ g 1 → r .w2 ≡ g 2 → r .w3 ≡ g 3 → (n : ℕ) → n < 4 → getD (rowOf r) n 0 ≡ g n
+word-by-word g r e0 e1 e2 e3 zero h = e0
+word-by-word g r e0 e1 e2 e3 (suc zero) h = e1
+word-by-word g r e0 e1 e2 e3 (suc (suc zero)) h = e2
+word-by-word g r e0 e1 e2 e3 (suc (suc (suc zero))) h = e3
+word-by-word g r e0 e1 e2 e3 (suc (suc (suc (suc n)))) h = absurd (omega arith)
+
 pub at-words : (f : ℕ → ℕ → ℕ → ℕ) → Keeps 32 f → (a b c : Register) → Held a → Held b → Held c
     → (i : ℕ) → i < 4 → lane 32 i (words₃ f a b c) ≡ f (lane 32 i a) (lane 32 i b) (lane 32 i c)
 at-words f keeps a b c ha hb hc i l =
-    word-lane i _ fits ∙ in-row i l ∙ sym (λ j. f (word-lane i a ha j) (word-lane i b hb j) (word-lane i c hc j))
+    word-lane i _ fits ∙ in-row ∙ sym (λ j. f (word-lane i a ha j) (word-lane i b hb j) (word-lane i c hc j))
   where
     fits : Held (words₃ f a b c)
     fits = record {
@@ -72,12 +80,8 @@ at-words f keeps a b c ha hb hc i l =
       w3-fits = keeps (a .w3) (b .w3) (c .w3) (ha .w3-fits) (hb .w3-fits) (hc .w3-fits);
     }
 
-    in-row : (n : ℕ) → n < 4 → getD (rowOf (words₃ f a b c)) n 0 ≡ f (getD (rowOf a) n 0) (getD (rowOf b) n 0) (getD (rowOf c) n 0)
-    in-row zero m = refl
-    in-row (suc zero) m = refl
-    in-row (suc (suc zero)) m = refl
-    in-row (suc (suc (suc zero))) m = refl
-    in-row (suc (suc (suc (suc n)))) m = absurd (omega arith)
+    in-row : getD (rowOf (words₃ f a b c)) i 0 ≡ f (getD (rowOf a) i 0) (getD (rowOf b) i 0) (getD (rowOf c) i 0)
+    in-row = word-by-word (λ (n : ℕ). f (getD (rowOf a) n 0) (getD (rowOf b) n 0) (getD (rowOf c) n 0)) _ refl refl refl refl i l
 
 pub at-halfwords : (f : ℕ → ℕ → ℕ) → ((x y : ℕ) → x < 2 ^ 16 → y < 2 ^ 16 → f x y < 2 ^ 16)
     → (a b : Register) → Held a → Held b
@@ -180,15 +184,11 @@ at-halfword i v fits r h j l =
       w3-fits = set-fits i v 6 (r .w3) fits (h .w3-fits);
     }
 
-    in-row : (n : ℕ) → n < 4 → getD (rowOf (withHalfword i v r)) n 0 ≡ withHalf i v (n + n) (getD (rowOf r) n 0)
-    in-row zero m = refl
-    in-row (suc zero) m = refl
-    in-row (suc (suc zero)) m = refl
-    in-row (suc (suc (suc zero))) m = refl
-    in-row (suc (suc (suc (suc n)))) m = absurd (omega arith)
+    in-row : getD (rowOf (withHalfword i v r)) (j / 2) 0 ≡ withHalf i v (j / 2 + j / 2) (getD (rowOf r) (j / 2) 0)
+    in-row = word-by-word (λ (n : ℕ). withHalf i v (n + n) (getD (rowOf r) n 0)) _ refl refl refl refl (j / 2) (omega arith)
 
     word : lane 32 (j / 2) (withHalfword i v r) ≡ withHalf i v (j / 2 + j / 2) (lane 32 (j / 2) r)
-    word = word-lane (j / 2) _ set ∙ in-row (j / 2) (omega arith) ∙ ap (withHalf i v (j / 2 + j / 2)) (sym (word-lane (j / 2) r h))
+    word = word-lane (j / 2) _ set ∙ in-row ∙ ap (withHalf i v (j / 2 + j / 2)) (sym (word-lane (j / 2) r h))
 
     go : (t : Bool) → eqb (j % 2) 1 ≡ t → half 16 t (lane 32 (j / 2) (withHalfword i v r)) ≡ cond (eqb j i) v (half 16 t (lane 32 (j / 2) r))
     go true t =
