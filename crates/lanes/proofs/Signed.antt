@@ -185,16 +185,9 @@ module _ (k : ℕ) (some : 0 < k) where
 
   -- ---- the order of signed numbers is that of their turned bits
 
-  module _ (x y : ℕ) (l : x < 2 ^ k) (m : y < 2 ^ k) where
-    order : {u v : ℕ} → u ≡ turned k x → v ≡ turned k y → ltZ (signed k x) (signed k y) ≡ ltb u v
-    order e f =
-        ap₂ ltZ (signed-turned x l) (signed-turned y m) ∙ sub-order (turned k x) (turned k y) (2 ^ (k - 1)) ∙ ap₂ ltb (sym e) (sym f)
-
-    pub less : {u v : ℕ} → u ≡ turned k x → v ≡ turned k y → u < v → ltZ (signed k x) (signed k y) ≡ true
-    less e f h = order e f ∙ lt-ltb _ _ h
-
-    pub not-less : {u v : ℕ} → u ≡ turned k x → v ≡ turned k y → v ≤ u → ltZ (signed k x) (signed k y) ≡ false
-    not-less e f h = order e f ∙ le-ltb _ _ h
+  pub order : (x y : ℕ) → x < 2 ^ k → y < 2 ^ k → {u v : ℕ} → u ≡ turned k x → v ≡ turned k y → ltb u v ≡ ltZ (signed k x) (signed k y)
+  order x y l m e f =
+      ap₂ ltb e f ∙ sym (sub-order (turned k x) (turned k y) (2 ^ (k - 1))) ∙ sym (ap₂ ltZ (signed-turned x l) (signed-turned y m))
 
   -- ---- what sums in 64 bits lean on
 

@@ -11,6 +11,7 @@ use Rattle.table.specs.declared.Target.the-variants.{None, To}
 use Rattle.table.specs.Fields.{isLi, isMultiply, isLong, isSubtract, isHigh, codeOf, rdOf}
 use Rattle.table.specs.Operation.{Operation, multiplyRow, shortRows, operationOf, isNop, targetOf}
 use Rattle.table.specs.Operation.Operation.{li, simal, simah, simsl, simsh, slmal, slmah, slmsl, slmsh}
+use Rattle.table.proofs.Rows.{each-choice}
 use Rattle.table.specs.Operation.Operation.{nop, shrhi, au, cntih, ahs, or, bcw, maxws, minws, mlhu, mlhcu, and, clzw, rotw, sfwu, sfhs}
 
 abbrev pub nop? : Operation → Bool
@@ -41,14 +42,7 @@ nop? sfwu = false
 nop? sfhs = false
 
 multiply-is-none : (x y z : Bool) → nop? (multiplyRow x y z) ≡ false
-multiply-is-none false false false = refl
-multiply-is-none false false true = refl
-multiply-is-none false true false = refl
-multiply-is-none false true true = refl
-multiply-is-none true false false = refl
-multiply-is-none true false true = refl
-multiply-is-none true true false = refl
-multiply-is-none true true true = refl
+multiply-is-none = each-choice (λ x y z. nop? (multiplyRow x y z) ≡ false) refl refl refl refl refl refl refl refl
 
 -- of the short codes only 0 is: one test over the other fifteen
 short-is-zero : (k : ℕ) → k < 16 → nop? (getD shortRows k nop) ≡ eqb k 0

@@ -17,27 +17,27 @@ use Rattle.table.specs.Gives.{result, givesOf}
 
 -- ---- the rows
 
+-- a claim about three bits holds if it holds at each of the eight choices
+pub each-choice : (P : Bool → Bool → Bool → Type 0)
+    → P false false false → P false false true → P false true false → P false true true
+    → P true false false → P true false true → P true true false → P true true true → (x y z : Bool) → P x y z
+each-choice P a b c d e f g h false false false = a
+each-choice P a b c d e f g h false false true = b
+each-choice P a b c d e f g h false true false = c
+each-choice P a b c d e f g h false true true = d
+each-choice P a b c d e f g h true false false = e
+each-choice P a b c d e f g h true false true = f
+each-choice P a b c d e f g h true true false = g
+each-choice P a b c d e f g h true true true = h
+
 -- the three bits choose the row that they name
-row-multiplies : (long subtract high : Bool) (w : ℕ) (a b c : Register) → result (multiplyRow long subtract high) w a b c ≡ multiplied long subtract high a b c
+row-multiplies : (w : ℕ) (a b c : Register) (long subtract high : Bool) → result (multiplyRow long subtract high) w a b c ≡ multiplied long subtract high a b c
 unfolding result
-row-multiplies false false false w a b c = refl
-row-multiplies false false true w a b c = refl
-row-multiplies false true false w a b c = refl
-row-multiplies false true true w a b c = refl
-row-multiplies true false false w a b c = refl
-row-multiplies true false true w a b c = refl
-row-multiplies true true false w a b c = refl
-row-multiplies true true true w a b c = refl
+row-multiplies w a b c =
+    each-choice (λ x y z. result (multiplyRow x y z) w a b c ≡ multiplied x y z a b c) refl refl refl refl refl refl refl refl
 
 row-reads : (long subtract high : Bool) → readsOf (multiplyRow long subtract high) ≡ Reads.Rs1Rs2Rs3
-row-reads false false false = refl
-row-reads false false true = refl
-row-reads false true false = refl
-row-reads false true true = refl
-row-reads true false false = refl
-row-reads true false true = refl
-row-reads true true false = refl
-row-reads true true true = refl
+row-reads = each-choice (λ x y z. readsOf (multiplyRow x y z) ≡ Reads.Rs1Rs2Rs3) refl refl refl refl refl refl refl refl
 
 -- zero in place of what is not read
 abbrev pub gate : Bool → Register → Register
@@ -131,7 +131,7 @@ module _ (w : ℕ) {l : Bool} (is-li : l ≡ isLi w) where
           → r ≡ multiplied x y z a b c → r ≡ givesOf w a b c
       unfolding givesOf
       multiply-gives a b c e f g h =
-          h ∙ (λ i. multiplied (e i) (f i) (g i) a b c) ∙ sym (row-multiplies (isLong w) (isSubtract w) (isHigh w) w a b c)
+          h ∙ (λ i. multiplied (e i) (f i) (g i) a b c) ∙ sym (row-multiplies w a b c (isLong w) (isSubtract w) (isHigh w))
           ∙ sym (ap (λ (o : Operation). result o w a b c) multiply-word)
 
     module _ (no : m ≡ false) where
