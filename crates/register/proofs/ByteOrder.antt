@@ -39,9 +39,9 @@ value-of-word w rest h e =
     let f = word-of-its-bytes w h in
     omega arith
 
--- ---- lists, four elements at a time
+-- ---- lists, some elements at a time
 
-next : (l : List ℕ) (i j : ℕ) {rest : List ℕ} → suc i ≡ j → i < length l → drop j l ≡ rest → drop i l ≡ getD l i 0 ∷ rest
+pub next : (l : List ℕ) (i j : ℕ) {rest : List ℕ} → suc i ≡ j → i < length l → drop j l ≡ rest → drop i l ≡ getD l i 0 ∷ rest
 next l i j s h e = drop-cons l i 0 h ∙ ap (λ (t : List ℕ). getD l i 0 ∷ t) (ap (λ (n : ℕ). drop n l) s ∙ e)
 
 pub next-four : (l : List ℕ) (i : ℕ) {rest : List ℕ} → i + 4 ≤ length l → drop (i + 4) l ≡ rest

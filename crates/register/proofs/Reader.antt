@@ -1,14 +1,14 @@
 -- For the reader of specs/: both ways through rows and through bytes give back what went in, an operation across registers is that operation at
 -- every lane, as document 01 numbers lanes, and a halfword that is set leaves the other seven as they were.
 -- Assumes nothing.
-use Prim.Native.Nat.{ℕ, zero, suc, _+_, _*_, _/_, _%_, _^_, _<_}
+use Prim.Native.Nat.{ℕ, zero, suc, _+_, _*_, _/_, _%_, _^_, _≤_, _<_}
 use mathlib.Core.Path.{_≡_, refl, sym, ap, ap₂, _∙_}
 use mathlib.Core.Bool.{Bool, true, false, cond}
-use mathlib.Core.List.{List, []}
+use mathlib.Core.List.{List, [], _++_}
 use native.Mathlib.Omega.{arith}
 use borrow.Author.Tests.{eq-eqb, ne-eqb, eqb-true, eqb-false}
 use lib.Dec.{eqb}
-use lib.ListN.{length, getD}
+use lib.ListN.{length, getD, drop}
 use lib.Pow as pow
 use Rattle.lanes.specs.Width.{low, high, join, halves₂}
 use Rattle.lanes.proofs.Words.{join-lt}
@@ -32,12 +32,16 @@ pub bytes-and-back : (r : Register) → Held r → ofBytes (bytesOf r) ≡ r
 bytes-and-back r h =
     same (word-of-its-bytes _ (h .w0-fits)) (word-of-its-bytes _ (h .w1-fits)) (word-of-its-bytes _ (h .w2-fits)) (word-of-its-bytes _ (h .w3-fits))
 
-pub from-bytes-and-back : (l : List ℕ) → length l ≡ 16 → ((i : ℕ) → getD l i 0 < 2 ^ 8) → bytesOf (ofBytes l) ≡ l
-from-bytes-and-back l n b =
+-- the bytes of the register in the first sixteen bytes, and then the rest, are the list
+pub bytes-then-rest : (l : List ℕ) → ((i : ℕ) → getD l i 0 < 2 ^ 8) → {rest : List ℕ} → 16 ≤ length l → drop 16 l ≡ rest → bytesOf (ofBytes l) ++ rest ≡ l
+bytes-then-rest l b h e =
     bytes-of-word-at l b 0 (omega arith)
     (sym (bytes-of-word-at l b 4 (omega arith)
     (sym (bytes-of-word-at l b 8 (omega arith)
-    (sym (bytes-of-word-at l b 12 (omega arith) (all-dropped l 16 n)))))))
+    (sym (bytes-of-word-at l b 12 h e))))))
+
+pub from-bytes-and-back : (l : List ℕ) → length l ≡ 16 → ((i : ℕ) → getD l i 0 < 2 ^ 8) → bytesOf (ofBytes l) ≡ l
+from-bytes-and-back l n b = bytes-then-rest l b (omega arith) (all-dropped l 16 n)
 
 -- byte i is bits 8i+7 to 8i
 pub byte-lane : (i : ℕ) (r : Register) → Held r → getD (bytesOf r) i 0 ≡ lane 8 i r

@@ -1,0 +1,65 @@
+-- The job file of document 01, over the offset `at` of its instructions.
+-- Assumes nothing.
+use Prim.Native.Nat.{ℕ, zero, suc, _+_, _*_, _/_, _%_, _^_}
+use mathlib.Core.List.{List, [], _∷_, _++_, flatMap}
+use lib.ListN.{length, getD, drop}
+use Rattle.register.specs.declared.Register.{Register}
+use Rattle.register.specs.Layout.{bytesOfWord, wordAt, ofBytes}
+
+-- "offset of the instructions, 8"
+abbrev pub instructionsAt : ℕ
+instructionsAt = 8
+
+-- "offset of the registers, 8+4n"
+abbrev pub registersAt : ℕ → ℕ → ℕ
+registersAt at n = at + 4 * n
+
+-- "The whole is exactly 8+4n+16r bytes"
+abbrev pub sizeOf : ℕ → ℕ → ℕ → ℕ
+sizeOf at n r = at + 4 * n + 16 * r
+
+-- "at most 776"
+abbrev pub LARGEST : ℕ
+LARGEST = 776
+
+-- ---- what is written
+
+-- "Numbers are least significant byte first": a number of two bytes, and an instruction, which "takes 4 bytes"
+abbrev pub twoBytes : ℕ → List ℕ
+twoBytes v = v % 2 ^ 8 ∷ v / 2 ^ 8 % 2 ^ 8 ∷ []
+
+abbrev pub fourBytes : ℕ → List ℕ
+fourBytes w = bytesOfWord w []
+
+-- "Bytes 0-1: n, instruction count. 2-3: r, register count. 4-5: offset of the instructions. 6-7: offset of the registers"
+abbrev pub headerBytes : ℕ → ℕ → ℕ → List ℕ
+headerBytes at n r = twoBytes n ++ twoBytes r ++ twoBytes at ++ twoBytes (registersAt at n)
+
+-- "each register takes 16": how many registers the bytes are
+abbrev pub registersIn : List ℕ → ℕ
+registersIn bytes = length bytes / 16
+
+-- the bytes of a job, from its instruction words and its registers' bytes
+unfoldable pub encode : ℕ → List ℕ → List ℕ → List ℕ
+encode at words bytes = headerBytes at (length words) (registersIn bytes) ++ flatMap fourBytes words ++ bytes
+
+-- ---- what is read
+
+-- "least significant byte first": the number of two bytes, and of the two from i on
+abbrev pub twoOfBytes : ℕ → ℕ → ℕ
+twoOfBytes b0 b1 = b0 + b1 * 2 ^ 8
+
+abbrev pub twoAt : List ℕ → ℕ → ℕ
+twoAt l i = twoOfBytes (getD l i 0) (getD l (i + 1) 0)
+
+-- n pieces of k bytes, one after another, each as what its bytes say
+abbrev pub pieces : {A : Type 0} → (List ℕ → A) → ℕ → ℕ → List ℕ → List A
+pieces says k zero l = []
+pieces says k (suc n) l = says l ∷ pieces says k n (drop k l)
+
+-- the first n instruction words of the list, and its first r registers
+abbrev pub wordsIn : ℕ → List ℕ → List ℕ
+wordsIn = pieces (λ (l : List ℕ). wordAt l 0) 4
+
+abbrev pub registersOf : ℕ → List ℕ → List Register
+registersOf = pieces ofBytes 16

@@ -1,0 +1,33 @@
+-- What the writer answers and what the lent buffer holds afterwards, for every job and every buffer.
+-- Assumes nothing.
+use Prim.Native.Nat.{ℕ, _%_}
+use mathlib.Core.Bool.{cond, not, _||_}
+use mathlib.Core.List.{List, flatMap}
+use lib.Dec.{ltb, eqb}
+use lib.ListN.{length, take}
+use Rattle.front.specs.Front.{atFront}
+use Rattle.register.specs.Layout.{bytesOf}
+use Rattle.table.specs.Refusal.{COUNT, REGS, WORD, ROOM, firstBad}
+use Rattle.job.specs.declared.Job.{Job}
+use Rattle.job.specs.declared.Written.{Written}
+use Rattle.job.specs.Layout.{encode}
+
+abbrev pub writtenOf : ℕ → ℕ → ℕ → Written
+writtenOf number place size = record { refusal = number; place = place; size = size }
+
+-- "the writer tests 2, 3, 6, 9"; "puts the job at the front of the buffer; bytes beyond it stay"; refused, the buffer stays "unaltered"
+unfoldable pub writeOf : ℕ → List ℕ → List ℕ → List ℕ → Written × List ℕ
+writeOf at words bytes out =
+    let job : List ℕ = encode at words bytes in
+    cond (ltb 64 (length words)) (writtenOf COUNT 0 0, out)
+    (cond (ltb 512 (length bytes) || not (eqb (length bytes % 16) 0)) (writtenOf REGS 0 0, out)
+    (cond (ltb (firstBad words) (length words)) (writtenOf WORD (firstBad words) 0, out)
+    (cond (ltb (length out) (length job)) (writtenOf ROOM 0 0, out)
+    (writtenOf 0 0 (length job), atFront job out))))
+
+-- a job that was read, as the writer takes it: its n words and the bytes of its r registers
+abbrev pub programOf : Job → List ℕ
+programOf j = take (j .n .0) (j .words)
+
+abbrev pub registerBytesOf : Job → List ℕ
+registerBytesOf j = flatMap bytesOf (take (j .r) (j .registers))
