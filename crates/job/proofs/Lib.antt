@@ -2,5 +2,4 @@ pub mod Pieces
 pub mod Tests
 pub mod RoundTrip
 pub mod Reader
-pub mod Calls
 pub mod Unique

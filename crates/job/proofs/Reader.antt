@@ -13,10 +13,10 @@ use Rattle.front.specs.Front.{atFront}
 use Rattle.table.specs.Refusal.{firstBad}
 use Rattle.job.specs.declared.ReadJob.{ReadJob}
 use Rattle.job.specs.declared.Written.{Written}
-use Rattle.job.specs.Layout.{instructionsAt, LARGEST, registersAt, registersIn, encode, twoAt, wordsIn, registersOf}
+use Rattle.job.specs.Layout.{instructionsAt, LARGEST, registersAt, sizeOf, registersIn, encode, twoAt, wordsIn, registersOf}
 use Rattle.job.specs.Read.{filled, jobOf, acceptedOf, readOf}
 use Rattle.job.specs.Write.{writtenOf, writeOf, programOf, registerBytesOf}
-use Rattle.job.proofs.Pieces.{Bytes}
+use Rattle.job.proofs.Pieces.{Bytes, job-size}
 use Rattle.job.proofs.Tests.{accepts, written, accepted}
 use Rattle.job.proofs.RoundTrip.{says-n, says-words, says-bytes, read-encoded, file-again, bytes-again, accepts-again}
 
@@ -99,6 +99,14 @@ never-larger l e =
 pub largest-written : writeOf instructionsAt (replicate 64 0) (replicate 512 0) (replicate LARGEST 0) .0 ≡ writtenOf 0 0 LARGEST
 unfolding writeOf encode flatMap firstBad
 largest-written = refl
+
+-- "The whole is exactly 8+4n+16r bytes": what the writer answers as the size.
+pub size-written : (words bytes out : List ℕ) → writeOf instructionsAt words bytes out .0 .refusal ≡ 0
+    → writeOf instructionsAt words bytes out .0 .size ≡ sizeOf instructionsAt (length words) (registersIn bytes)
+size-written words bytes out e =
+    let a = accepts instructionsAt words bytes out e in
+    let whole = a .job .whole in
+    ap (λ (w : Written × List ℕ). w .0 .size) (written instructionsAt words bytes out a) ∙ omega (arith, job-size words bytes)
 
 -- "zero beyond n and r"
 pub zero-beyond : {A : Type 0} (size : ℕ) (none : A) (l : List A) (i : ℕ) → length l ≤ i → getD (filled size none l) i none ≡ none

@@ -1,16 +1,12 @@
-// Job files: one layout, read and written.
+// Job files: what they say and what reader and writer answer, in `specs/`; that both ways give back what went in, in `proofs/`.
 
 ghost use mathlib.Core.Path.{_≡_};
 ghost use Rattle.job.specs.Layout.{LARGEST};
 use register::Register;
 use table::Count;
 
-mod numbers;
-pub mod reading;
-pub mod writing;
-
 // Where a file's instruction words begin.
-const INSTRUCTIONS_AT: usize = 8;
+pub const INSTRUCTIONS_AT: usize = 8;
 
 // The size of a job of 64 words and 32 registers: a buffer of so many bytes has room for any job.
 pub const LARGEST: usize = 776;

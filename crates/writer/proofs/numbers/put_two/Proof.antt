@@ -1,0 +1,29 @@
+-- Carried by `sets-eq`: stores one after another from the front on.
+use native.Mathlib.Omega.{arith}
+use borrow.Author.Needs.{needs}
+use lib.Seq.{sets-eq}
+use Rattle.job.specs.Layout.{twoBytes}
+use Rattle.writer.proofs.numbers.put_two.Statement.{statement}
+use Rattle.writer.proofs.numbers.put_two.Tie as tie
+
+cast-out : tie.Need-cast-out
+cast-out c = search needs
+
+slice-write-out : tie.Need-slice-write-out
+slice-write-out c = search needs
+
+cast-out-2 : tie.Need-cast-out-2
+cast-out-2 c = search needs
+
+slice-write-out-2 : tie.Need-slice-write-out-2
+slice-write-out-2 c = search needs
+
+same-length : tie.Need-same-length
+same-length c = search needs
+
+returns : tie.Need-returns
+returns c = sets-eq (twoBytes (c .args .v)) (c .args .out .now) 0 (omega arith)
+
+pub put-two-spec : {M : Type 1} → statement M
+put-two-spec =
+    tie.close (tie.spec cast-out slice-write-out cast-out-2 slice-write-out-2 same-length returns)

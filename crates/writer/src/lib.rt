@@ -1,0 +1,101 @@
+// The writer of job files: its tests, then header, words and register bytes, each into its own part of the buffer.
+
+ghost use Prim.Native.Nat.{_+_, _*_, _≤_};
+ghost use mathlib.Core.Path.{_≡_};
+ghost use mathlib.Core.List.{flatMap};
+ghost use lib.ListN.{length};
+ghost use Rattle.front.specs.Front.{atFront};
+ghost use Rattle.job.specs.Layout.{instructionsAt, LARGEST, fourBytes, headerBytes, encode};
+ghost use Rattle.job.specs.Write.{writtenOf, writeOf};
+
+mod numbers;
+
+use crate::numbers::put_four;
+use crate::numbers::put_two;
+use job::INSTRUCTIONS_AT;
+use job::Written;
+use table::refusal;
+
+fn put_header(out: &mut [u8], at: usize, n: usize, r: usize)
+    requires { ⌜ (8 ≤ length (now out)) × (at ≤ LARGEST) × (n ≤ 64) ⌝ }
+    ensures { λ _. ⌜ now (out .exit) ≡ atFront (headerBytes at n r) (now (out .entry)) ⌝ }
+{
+    put_two(out, n);
+    put_two(&mut out[2..], r);
+    put_two(&mut out[4..], at);
+    put_two(&mut out[6..], at + 4 * n);
+}
+
+fn put_words(out: &mut [u8], words: &[u32])
+    requires { ⌜ 4 * length (now words) ≤ length (now out) ⌝ }
+    ensures { λ _. ⌜ now (out .exit) ≡ atFront (flatMap fourBytes (now (words .entry))) (now (out .entry)) ⌝ }
+{
+    let mut i = 0;
+    while i < words.len() {
+        let at = 4 * i;
+        let word = words[i];
+        put_four(&mut out[at..], word);
+        i += 1;
+    }
+}
+
+fn put_bytes(out: &mut [u8], bytes: &[u8])
+    requires { ⌜ length (now bytes) ≤ length (now out) ⌝ }
+    ensures { λ _. ⌜ now (out .exit) ≡ atFront (now (bytes .entry)) (now (out .entry)) ⌝ }
+{
+    let mut i = 0;
+    while i < bytes.len() {
+        out[i] = bytes[i];
+        i += 1;
+    }
+}
+
+fn put_job(out: &mut [u8], words: &[u32], registers: &[u8])
+    requires { ⌜ (length (now words) ≤ 64) × (8 + 4 * length (now words) + length (now registers) ≤ length (now out)) ⌝ }
+    ensures { λ _. ⌜ now (out .exit) ≡ atFront (encode instructionsAt (now (words .entry)) (now (registers .entry))) (now (out .entry)) ⌝ }
+{
+    let n = words.len();
+    let r = registers.len() / 16;
+    put_header(out, INSTRUCTIONS_AT, n, r);
+    put_words(&mut out[INSTRUCTIONS_AT..], words);
+    let at = INSTRUCTIONS_AT + 4 * n;
+    put_bytes(&mut out[at..], registers);
+}
+
+fn refused(number: u32, place: usize) -> Written
+    ensures { λ r. ⌜ r ≡ writtenOf number place 0 ⌝ }
+{
+    Written {
+        refusal: number,
+        place,
+        size: 0,
+    }
+}
+
+pub fn write_job(words: &[u32], registers: &[u8], out: &mut [u8]) -> Written
+    ensures { λ r. ⌜ (r, now (out .exit)) ≡ writeOf instructionsAt (now (words .entry)) (now (registers .entry)) (now (out .entry)) ⌝ }
+{
+    if words.len() > 64 {
+        return refused(refusal::COUNT, 0);
+    }
+    if registers.len() > 512 {
+        return refused(refusal::REGS, 0);
+    }
+    if registers.len() % 16 != 0 {
+        return refused(refusal::REGS, 0);
+    }
+    let bad = refusal::first_bad(words);
+    if bad < words.len() {
+        return refused(refusal::WORD, bad);
+    }
+    let size = INSTRUCTIONS_AT + 4 * words.len() + registers.len();
+    if out.len() < size {
+        return refused(refusal::ROOM, 0);
+    }
+    put_job(out, words, registers);
+    Written {
+        refusal: 0,
+        place: 0,
+        size,
+    }
+}

@@ -1,0 +1,25 @@
+// Numbers of two and of four bytes, least significant byte first, at the front of a buffer.
+
+ghost use Prim.Native.Nat.{_≤_};
+ghost use mathlib.Core.Path.{_≡_};
+ghost use lib.ListN.{length};
+ghost use Rattle.front.specs.Front.{atFront};
+ghost use Rattle.job.specs.Layout.{twoBytes, fourBytes};
+
+pub(crate) fn put_two(out: &mut [u8], v: usize)
+    requires { ⌜ 2 ≤ length (now out) ⌝ }
+    ensures { λ _. ⌜ now (out .exit) ≡ atFront (twoBytes v) (now (out .entry)) ⌝ }
+{
+    out[0] = (v % 0x100) as u8;
+    out[1] = (v / 0x100 % 0x100) as u8;
+}
+
+pub(crate) fn put_four(out: &mut [u8], w: u32)
+    requires { ⌜ 4 ≤ length (now out) ⌝ }
+    ensures { λ _. ⌜ now (out .exit) ≡ atFront (fourBytes w) (now (out .entry)) ⌝ }
+{
+    out[0] = (w % 0x100) as u8;
+    out[1] = (w / 0x100 % 0x100) as u8;
+    out[2] = (w / 0x1_0000 % 0x100) as u8;
+    out[3] = (w / 0x100_0000 % 0x100) as u8;
+}
