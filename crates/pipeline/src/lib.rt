@@ -1,0 +1,1 @@
+// The pipeline theorem over any stages: proofs/Stages.antt. There is no code.

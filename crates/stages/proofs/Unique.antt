@@ -1,0 +1,59 @@
+-- For every public function: no second answer fits its contract, since the contract has an equation for the whole answer.
+-- Assumes nothing.
+use mathlib.Core.Path.{refl, sym, _∙_}
+use Rattle.determined.specs.Determined.{Determined}
+use Rattle.stages.proofs.instruction.Kinds as instruction-kinds
+use Rattle.stages.proofs.instruction.Reads as instruction-reads
+use Rattle.stages.proofs.written.Kinds as written-kinds
+use Rattle.stages.proofs.written.Reads as written-reads
+use Rattle.stages.proofs.executed.Kinds as executed-kinds
+use Rattle.stages.proofs.executed.Reads as executed-reads
+use Rattle.stages.proofs.read_from.Kinds as read-from-kinds
+use Rattle.stages.proofs.read_from.Reads as read-from-reads
+use Rattle.stages.proofs.decoded.Kinds as decoded-kinds
+use Rattle.stages.proofs.decoded.Reads as decoded-reads
+use Rattle.stages.proofs.delivered.Kinds as delivered-kinds
+use Rattle.stages.proofs.delivered.Reads as delivered-reads
+use Rattle.stages.proofs.next_count.Kinds as next-count-kinds
+use Rattle.stages.proofs.next_count.Reads as next-count-reads
+use Rattle.stages.proofs.latches.in_decoded.Kinds as in-decoded-kinds
+use Rattle.stages.proofs.latches.in_decoded.Reads as in-decoded-reads
+use Rattle.stages.proofs.latches.in_executed.Kinds as in-executed-kinds
+use Rattle.stages.proofs.latches.in_executed.Reads as in-executed-reads
+use Rattle.stages.proofs.latches.is_empty.Kinds as is-empty-kinds
+use Rattle.stages.proofs.latches.is_empty.Reads as is-empty-reads
+use Rattle.stages.proofs.latches.same_held.Kinds as same-held-kinds
+use Rattle.stages.proofs.latches.same_held.Reads as same-held-reads
+
+pub instruction-unique : Determined 0 instruction-kinds.ps instruction-kinds.r instruction-reads.Post
+instruction-unique κs a x y v w p q = (p ∙ sym q, refl)
+
+pub written-unique : Determined 0 written-kinds.ps written-kinds.r written-reads.Post
+written-unique κs a x y v w p q = (p ∙ sym q, refl)
+
+pub executed-unique : Determined 0 executed-kinds.ps executed-kinds.r executed-reads.Post
+executed-unique κs a x y v w p q = (p ∙ sym q, refl)
+
+pub read-from-unique : Determined 0 read-from-kinds.ps read-from-kinds.r read-from-reads.Post
+read-from-unique κs a x y v w p q = (p ∙ sym q, refl)
+
+pub decoded-unique : Determined 0 decoded-kinds.ps decoded-kinds.r decoded-reads.Post
+decoded-unique κs a x y v w p q = (p ∙ sym q, refl)
+
+pub delivered-unique : Determined 0 delivered-kinds.ps delivered-kinds.r delivered-reads.Post
+delivered-unique κs a x y v w p q = (p ∙ sym q, refl)
+
+pub next-count-unique : Determined 0 next-count-kinds.ps next-count-kinds.r next-count-reads.Post
+next-count-unique κs a x y v w p q = (p ∙ sym q, refl)
+
+pub in-decoded-unique : Determined 0 in-decoded-kinds.ps in-decoded-kinds.r in-decoded-reads.Post
+in-decoded-unique κs a x y v w p q = (p ∙ sym q, refl)
+
+pub in-executed-unique : Determined 0 in-executed-kinds.ps in-executed-kinds.r in-executed-reads.Post
+in-executed-unique κs a x y v w p q = (p ∙ sym q, refl)
+
+pub is-empty-unique : Determined 0 is-empty-kinds.ps is-empty-kinds.r is-empty-reads.Post
+is-empty-unique κs a x y v w p q = (p ∙ sym q, refl)
+
+pub same-held-unique : Determined 0 same-held-kinds.ps same-held-kinds.r same-held-reads.Post
+same-held-unique κs a x y v w p q = (p ∙ sym q, refl)

@@ -1,0 +1,4 @@
+pub mod Recorded
+pub mod Loop
+pub mod Answers
+pub mod Unique

@@ -1,0 +1,177 @@
+// The calls on a unit, by value: a unit goes in and comes back, and on a refusal it comes back as it was given.
+
+ghost use Prim.Native.Nat.{_≤_};
+ghost use mathlib.Core.Path.{_≡_};
+ghost use Rattle.model.specs.Calls.{registersSet, freshOf, startOf, cycledOf, ranOf, registerOf, askedDrained};
+
+mod cycles;
+pub mod made;
+
+use crate::cycles::cycles;
+use crate::cycles::lesser;
+use crate::made::is_drained;
+use crate::made::last;
+use crate::made::well_made;
+use model::Cycled;
+use model::Drained;
+use model::ExWb;
+use model::Held;
+use model::IdEx;
+use model::IfId;
+use model::Ran;
+use model::Started;
+use model::Unit;
+use register::Register;
+use table::Count;
+use table::refusal;
+
+pub fn fresh() -> Unit
+    ensures { λ r. ⌜ r ≡ freshOf ⌝ }
+{
+    let zero = Register::ZERO;
+    let program = [0u32; 64];
+    let registers = [zero; 32];
+    Unit {
+        program: program,
+        n: Count(0),
+        count: Count(0),
+        cycle: 0,
+        registers: registers,
+        fetched: IfId::Empty,
+        decoded: IdEx::Empty,
+        executed: ExWb::Empty,
+    }
+}
+
+// The registers of the file in front of those that stay.
+fn set_registers(from: [Register; 32], r: usize, old: [Register; 32]) -> [Register; 32]
+    requires { ⌜ r ≤ 32 ⌝ }
+    ensures { λ f. ⌜ f ≡ registersSet r from old ⌝ }
+{
+    let mut registers = old;
+    let mut i = 0;
+    while i < r {
+        let register = from[i];
+        registers[i] = register;
+        i += 1;
+    }
+    registers
+}
+
+// It tests the file and no record, so it also starts on a unit that is not well made.
+pub fn start(u: Unit, file: &[u8]) -> Started
+    ensures { λ r. ⌜ r ≡ startOf (now (file .entry)) u ⌝ }
+{
+    let read = reader::read_job(file);
+    let number = read.refusal;
+    let place = read.place;
+    if number != 0 {
+        return Started {
+            refusal: number,
+            place: place,
+            unit: u,
+        };
+    }
+    let job = read.job;
+    let old = u.registers;
+    let from = job.registers;
+    let program = job.words;
+    let n = job.n;
+    let registers = set_registers(from, job.r, old);
+    let unit = Unit {
+        program: program,
+        n: n,
+        count: Count(0),
+        cycle: 0,
+        registers: registers,
+        fetched: IfId::Empty,
+        decoded: IdEx::Empty,
+        executed: ExWb::Empty,
+    };
+    Started {
+        refusal: number,
+        place: place,
+        unit: unit,
+    }
+}
+
+pub fn cycle(u: Unit) -> Cycled
+    ensures { λ r. ⌜ r ≡ cycledOf u ⌝ }
+{
+    if well_made(u) {
+        if is_drained(u) {
+            return Cycled {
+                refusal: refusal::DRAINED,
+                unit: u,
+            };
+        }
+        let after = cycles(u, 1);
+        return Cycled {
+            refusal: 0,
+            unit: after,
+        };
+    }
+    Cycled {
+        refusal: refusal::STATE,
+        unit: u,
+    }
+}
+
+pub fn run(u: Unit, budget: u32) -> Ran
+    ensures { λ r. ⌜ r ≡ ranOf u budget ⌝ }
+{
+    if well_made(u) {
+        let n = u.n;
+        let end = last(n);
+        let made = lesser(budget, end - u.cycle);
+        let after = cycles(u, made);
+        return Ran {
+            refusal: 0,
+            made: made,
+            unit: after,
+        };
+    }
+    Ran {
+        refusal: refusal::STATE,
+        made: 0,
+        unit: u,
+    }
+}
+
+pub fn register_of(u: Unit, number: usize) -> Held
+    ensures { λ r. ⌜ r ≡ registerOf u number ⌝ }
+{
+    if well_made(u) {
+        if number > 31 {
+            return Held {
+                refusal: refusal::POINTER,
+                register: Register::ZERO,
+            };
+        }
+        let registers = u.registers;
+        return Held {
+            refusal: 0,
+            register: registers[number],
+        };
+    }
+    Held {
+        refusal: refusal::STATE,
+        register: Register::ZERO,
+    }
+}
+
+pub fn drained(u: Unit) -> Drained
+    ensures { λ r. ⌜ r ≡ askedDrained u ⌝ }
+{
+    if well_made(u) {
+        let yes = is_drained(u);
+        return Drained {
+            refusal: 0,
+            drained: yes,
+        };
+    }
+    Drained {
+        refusal: refusal::STATE,
+        drained: false,
+    }
+}
