@@ -162,4 +162,4 @@ goes-on (suc k) u h = go (drainedOf u) refl (goes-on k (cycleOf u) (placed-cycle
         let more = leb-false (lastOf (u .n .0)) (u .cycle) (sym (drained-is u h) ∙ q) in
         let left : leftOf (cycleOf u) ≡ lastOf (u .n .0) - (u .cycle + 1) = refl in
         let m : min (suc k) (leftOf u) ≡ suc (min k (lastOf (u .n .0) - (u .cycle + 1))) = omega arith in
-        rw (later, left, m, one-first (min k (lastOf (u .n .0) - (u .cycle + 1))) u, add-one)
+        rw (later, left, m, one-first (min k (lastOf (u .n .0) - (u .cycle + 1))) u, add-one (min k (lastOf (u .n .0) - (u .cycle + 1))))

@@ -1,12 +1,13 @@
 -- What each call on a unit answers, for every unit whatsoever.
 -- Assumes nothing.
 use Prim.Native.Nat.{ℕ, zero, suc, _+_}
-use mathlib.Core.Bool.{false, cond}
+use mathlib.Core.Bool.{false, cond, not}
 use mathlib.Core.List.{List}
 use lib.Dec.{eqb, ltb}
 use lib.ListN.{getD, set, replicate}
 use Rattle.register.specs.declared.Register.{Register}
 use Rattle.register.specs.Layout.{zeroRegister}
+use Rattle.table.specs.declared.Count.{Count}
 use Rattle.table.specs.Refusal.{POINTER, DRAINED, STATE}
 use Rattle.job.specs.declared.Job.{Job}
 use Rattle.job.specs.declared.ReadJob.{ReadJob}
@@ -26,49 +27,44 @@ use Rattle.model.specs.Record.{drainedOf, wellMadeOf}
 
 -- ---- a start
 
--- "A start empties the latches and puts count and cycle number to zero; what a broken-off job had not yet written is lost."
-abbrev pub goneOf : Unit → Unit
-goneOf u = record {
-  program = u .program;
-  n = u .n;
+-- a unit before its first cycle, on a program of n lines and some registers
+abbrev pub begunOf : List ℕ → Count → List Register → Unit
+begunOf program n registers = record {
+  program = program;
+  n = n;
   count = record { 0 = 0 };
   cycle = 0;
-  registers = u .registers;
+  registers = registers;
   fetched = IF/ID.Empty;
   decoded = ID/EX.Empty;
   executed = EX/WB.Empty;
 }
+
+-- "A fresh unit has n = 0, registers zero, and is drained."
+abbrev pub freshOf : Unit
+freshOf = begunOf (replicate 64 0) (record { 0 = 0 }) (replicate 32 zeroRegister)
 
 -- "A start sets registers 0 .. r-1 from the file; the others keep what they held."
 abbrev pub registersSet : ℕ → List Register → List Register → List Register
 registersSet zero file f = f
 registersSet (suc i) file f = set (registersSet i file f) i (getD file i zeroRegister)
 
--- a load sets program and registers, and puts count and cycle to zero
+-- a load sets program and registers
 abbrev pub loadedOf : Job → Unit → Unit
 loadedOf job u = record {
   program = job .words;
   n = job .n;
-  count = record { 0 = 0 };
-  cycle = 0;
+  count = u .count;
+  cycle = u .cycle;
   registers = registersSet (job .r) (job .registers) (u .registers);
   fetched = u .fetched;
   decoded = u .decoded;
   executed = u .executed;
 }
 
--- "A fresh unit has n = 0, registers zero, and is drained."
-abbrev pub freshOf : Unit
-freshOf = record {
-  program = replicate 64 0;
-  n = record { 0 = 0 };
-  count = record { 0 = 0 };
-  cycle = 0;
-  registers = replicate 32 zeroRegister;
-  fetched = IF/ID.Empty;
-  decoded = ID/EX.Empty;
-  executed = EX/WB.Empty;
-}
+-- "A start empties the latches and puts count and cycle number to zero; what a broken-off job had not yet written is lost.": a go
+abbrev pub goneOf : Unit → Unit
+goneOf u = begunOf (u .program) (u .n) (u .registers)
 
 -- a start is a go after a load; it "tests 1 to 6", as reading does; refused, the unit "comes back as it was given"
 abbrev pub startedBy : ReadJob → Unit → Started
@@ -86,9 +82,9 @@ startOf file u = startedBy (readOf instructionsAt file) u
 -- "then a cycle tests 8"
 unfoldable pub cycledOf : Unit → Cycled
 cycledOf u =
-    cond (wellMadeOf u)
-    (cond (drainedOf u) (record { refusal = DRAINED; unit = u }) (record { refusal = 0; unit = cycleOf u }))
-    (record { refusal = STATE; unit = u })
+    cond (not (wellMadeOf u)) (record { refusal = STATE; unit = u })
+    (cond (drainedOf u) (record { refusal = DRAINED; unit = u })
+    (record { refusal = 0; unit = cycleOf u }))
 
 -- as many cycles as the budget allows and the unit has left: how many, and the unit afterwards
 unfoldable pub goesOn : ℕ → Unit → ℕ × Unit
@@ -98,16 +94,15 @@ goesOn (suc k) u = cond (drainedOf u) (0, u) (goesOn k (cycleOf u) .0 + 1, goesO
 -- "A run with a budget k makes min(k, cycles left) cycles and answers that number; drained, it answers 0 and is not refused."
 unfoldable pub ranOf : Unit → ℕ → Ran
 ranOf u k =
-    cond (wellMadeOf u)
+    cond (not (wellMadeOf u)) (record { refusal = STATE; made = 0; unit = u })
     (record { refusal = 0; made = goesOn k u .0; unit = goesOn k u .1 })
-    (record { refusal = STATE; made = 0; unit = u })
 
 -- "and a register asked by number 7"
 unfoldable pub registerOf : Unit → ℕ → Held
 registerOf u i =
-    cond (wellMadeOf u)
-    (cond (ltb 31 i) (record { refusal = POINTER; register = zeroRegister }) (record { refusal = 0; register = getD (u .registers) i zeroRegister }))
-    (record { refusal = STATE; register = zeroRegister })
+    cond (not (wellMadeOf u)) (record { refusal = STATE; register = zeroRegister })
+    (cond (ltb 31 i) (record { refusal = POINTER; register = zeroRegister })
+    (record { refusal = 0; register = getD (u .registers) i zeroRegister }))
 
 unfoldable pub askedDrained : Unit → Drained
-askedDrained u = cond (wellMadeOf u) (record { refusal = 0; drained = drainedOf u }) (record { refusal = STATE; drained = false })
+askedDrained u = cond (not (wellMadeOf u)) (record { refusal = STATE; drained = false }) (record { refusal = 0; drained = drainedOf u })

@@ -1,30 +1,28 @@
 -- What each call answers, from what its parts give. Carried by rewriting each test as it came out; a run goes by `goes-on` of crate `model`.
 -- Assumes nothing.
-use Prim.Native.Nat.{ℕ, _+_, _-_, _≤_, min}
+use Prim.Native.Nat.{ℕ, _+_, _-_, _≤_, _<_, min}
 use mathlib.Core.Path.{_≡_, sym, ap, _∙_}
-use mathlib.Core.Bool.{true, false}
+use mathlib.Core.Bool.{Bool, true, false}
 use mathlib.Core.List.{List}
 use native.Mathlib.Omega.{arith}
-use borrow.Author.Tests.{eq-eqb, ne-eqb, leb-false}
+use borrow.Author.Tests.{eq-eqb, ne-eqb, lt-ltb, le-ltb, leb-false}
+use lib.ListN.{getD}
 use Rattle.register.specs.declared.Register.{Register}
-use Rattle.table.specs.Refusal.{DRAINED, STATE}
+use Rattle.register.specs.Layout.{zeroRegister}
+use Rattle.table.specs.Refusal.{POINTER, DRAINED, STATE}
 use Rattle.job.specs.declared.ReadJob.{ReadJob}
 use Rattle.job.specs.Layout.{instructionsAt}
 use Rattle.job.specs.Read.{readOf}
-use Rattle.model.specs.declared.IfId.the-variants as IF/ID
-use Rattle.model.specs.declared.IdEx.the-variants as ID/EX
-use Rattle.model.specs.declared.ExWb.the-variants as EX/WB
 use Rattle.model.specs.declared.Unit.{Unit}
 use Rattle.model.specs.declared.Started.{Started}
 use Rattle.model.specs.declared.Cycled.{Cycled}
 use Rattle.model.specs.declared.Ran.{Ran}
 use Rattle.model.specs.Cycle.{cyclesOf}
 use Rattle.model.specs.Record.{drainedOf, lastOf, wellMadeOf}
-use Rattle.model.specs.Calls.{registersSet, startOf, cycledOf, ranOf}
+use Rattle.model.specs.Calls.{begunOf, registersSet, startOf, cycledOf, ranOf, registerOf, askedDrained}
 use Rattle.model.proofs.Control.{drained-is}
 use Rattle.model.proofs.Made.{well-made-says, goes-on}
 use Rattle.model.proofs.FromStart.{sound-read}
-use Rattle.unit.proofs.Loop.{unitOf}
 
 -- ---- a start
 
@@ -36,16 +34,11 @@ module _ (file : List ℕ) (u : Unit) {read : ReadJob} (reads : read ≡ readOf 
   pub few-registers : read .refusal ≡ 0 → read .job .r ≤ 32
   few-registers e = rw reads (sound-read file (sym (ap (λ (r : ReadJob). r .refusal) reads) ∙ e) .fewer)
 
-  pub begun : {f : List Register} → read .refusal ≡ 0 → f ≡ registersSet (read .job .r) (read .job .registers) (u .registers)
-      → _≡_ {A = Started}
-      (record {
-        refusal = read .refusal;
-        place = read .place;
-        unit = unitOf (read .job .words) (read .job .n) (record { 0 = 0 }) 0 f IF/ID.Empty ID/EX.Empty EX/WB.Empty;
-      })
-      (startOf file u)
+  pub accepted : {f : List Register} {v : Unit} → read .refusal ≡ 0
+      → f ≡ registersSet (read .job .r) (read .job .registers) (u .registers) → v ≡ begunOf (read .job .words) (read .job .n) f
+      → _≡_ {A = Started} (record { refusal = read .refusal; place = read .place; unit = v }) (startOf file u)
   unfolding startOf
-  begun e g = rw (← reads, eq-eqb _ _ e, g)
+  accepted e g h = rw (h, ← reads, eq-eqb _ _ e, g)
 
 -- ---- the other calls
 
@@ -79,3 +72,26 @@ module _ (u : Unit) where
         → _≡_ {A = Ran} (record { refusal = 0; made = m; unit = v }) (ranOf u k)
     unfolding ranOf
     went-on k e f g = rw (made, goes-on k u (well-made-says u made .placed), g, f, e)
+
+-- ---- the calls that ask
+
+module _ (u : Unit) {t : Bool} (test : t ≡ wellMadeOf u) where
+  pub no-register : (i : ℕ) → t ≡ false → record { refusal = STATE; register = zeroRegister } ≡ registerOf u i
+  unfolding registerOf
+  no-register i h = rw (← test, h)
+
+  pub no-pointer : (i : ℕ) → t ≡ true → 31 < i → record { refusal = POINTER; register = zeroRegister } ≡ registerOf u i
+  unfolding registerOf
+  no-pointer i h above = rw (← test, h, lt-ltb _ _ above)
+
+  pub that-register : (i : ℕ) → t ≡ true → i ≤ 31 → record { refusal = 0; register = getD (u .registers) i zeroRegister } ≡ registerOf u i
+  unfolding registerOf
+  that-register i h below = rw (← test, h, le-ltb _ _ below)
+
+  pub not-asked : t ≡ false → record { refusal = STATE; drained = false } ≡ askedDrained u
+  unfolding askedDrained
+  not-asked h = rw (← test, h)
+
+  pub asked : t ≡ true → {s : Bool} → s ≡ drainedOf u → record { refusal = 0; drained = s } ≡ askedDrained u
+  unfolding askedDrained
+  asked h e = rw (← test, h, e)

@@ -1,4 +1,3 @@
-pub mod Recorded
 pub mod Loop
 pub mod Answers
 pub mod Unique

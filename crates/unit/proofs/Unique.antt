@@ -14,8 +14,6 @@ use Rattle.unit.proofs.register_of.Kinds as register-of-kinds
 use Rattle.unit.proofs.register_of.Reads as register-of-reads
 use Rattle.unit.proofs.drained.Kinds as drained-kinds
 use Rattle.unit.proofs.drained.Reads as drained-reads
-use Rattle.unit.proofs.made.well_made.Kinds as well-made-kinds
-use Rattle.unit.proofs.made.well_made.Reads as well-made-reads
 
 pub fresh-unique : Determined 0 fresh-kinds.ps fresh-kinds.r fresh-reads.Post
 fresh-unique κs a x y v w p q = (p ∙ sym q, refl)
@@ -34,6 +32,3 @@ register-of-unique κs a x y v w p q = (p ∙ sym q, refl)
 
 pub drained-unique : Determined 0 drained-kinds.ps drained-kinds.r drained-reads.Post
 drained-unique κs a x y v w p q = (p ∙ sym q, refl)
-
-pub well-made-unique : Determined 0 well-made-kinds.ps well-made-kinds.r well-made-reads.Post
-well-made-unique κs a x y v w p q = (p ∙ sym q, refl)

@@ -1,20 +1,11 @@
 // So many cycles on a unit: it is taken apart once, and nothing of the size of the register file or the program is handed on in a cycle.
 
-ghost use Prim.Native.Nat.{_+_, _≤_, min};
+ghost use Prim.Native.Nat.{_+_, _≤_};
 ghost use mathlib.Core.Path.{_≡_};
 ghost use mathlib.Core.Bool.{true};
 ghost use Rattle.model.specs.Cycle.{cyclesOf};
 ghost use Rattle.model.specs.Record.{lastOf, wellMadeOf};
 use model::Unit;
-
-pub(crate) fn lesser(a: u32, b: u32) -> u32
-    ensures { λ r. ⌜ r ≡ min a b ⌝ }
-{
-    if a < b {
-        return a;
-    }
-    b
-}
 
 pub(crate) fn cycles(u: Unit, m: u32) -> Unit
     requires { ⌜ (wellMadeOf u ≡ true) × (u .cycle + m ≤ lastOf (u .n .0)) ⌝ }

@@ -2,16 +2,11 @@
 
 ghost use Prim.Native.Nat.{_≤_};
 ghost use mathlib.Core.Path.{_≡_};
-ghost use Rattle.model.specs.Calls.{registersSet, freshOf, startOf, cycledOf, ranOf, registerOf, askedDrained};
+ghost use Rattle.model.specs.Calls.{begunOf, registersSet, freshOf, startOf, cycledOf, ranOf, registerOf, askedDrained};
 
 mod cycles;
-pub mod made;
 
 use crate::cycles::cycles;
-use crate::cycles::lesser;
-use crate::made::is_drained;
-use crate::made::last;
-use crate::made::well_made;
 use model::Cycled;
 use model::Drained;
 use model::ExWb;
@@ -24,16 +19,18 @@ use model::Unit;
 use register::Register;
 use table::Count;
 use table::refusal;
+use wellmade::is_drained;
+use wellmade::last;
+use wellmade::lesser;
+use wellmade::well_made;
 
-pub fn fresh() -> Unit
-    ensures { λ r. ⌜ r ≡ freshOf ⌝ }
+// A unit before its first cycle: the latches empty, count and cycle number zero.
+fn begun(program: [u32; 64], n: Count, registers: [Register; 32]) -> Unit
+    ensures { λ r. ⌜ r ≡ begunOf program n registers ⌝ }
 {
-    let zero = Register::ZERO;
-    let program = [0u32; 64];
-    let registers = [zero; 32];
     Unit {
         program: program,
-        n: Count(0),
+        n: n,
         count: Count(0),
         cycle: 0,
         registers: registers,
@@ -43,7 +40,16 @@ pub fn fresh() -> Unit
     }
 }
 
-// The registers of the file in front of those that stay.
+pub fn fresh() -> Unit
+    ensures { λ r. ⌜ r ≡ freshOf ⌝ }
+{
+    let zero = Register::ZERO;
+    let program = [0u32; 64];
+    let registers = [zero; 32];
+    begun(program, Count(0), registers)
+}
+
+// Registers 0 to r - 1 from the file; the others stay.
 fn set_registers(from: [Register; 32], r: usize, old: [Register; 32]) -> [Register; 32]
     requires { ⌜ r ≤ 32 ⌝ }
     ensures { λ f. ⌜ f ≡ registersSet r from old ⌝ }
@@ -78,16 +84,7 @@ pub fn start(u: Unit, file: &[u8]) -> Started
     let program = job.words;
     let n = job.n;
     let registers = set_registers(from, job.r, old);
-    let unit = Unit {
-        program: program,
-        n: n,
-        count: Count(0),
-        cycle: 0,
-        registers: registers,
-        fetched: IfId::Empty,
-        decoded: IdEx::Empty,
-        executed: ExWb::Empty,
-    };
+    let unit = begun(program, n, registers);
     Started {
         refusal: number,
         place: place,

@@ -1,5 +1,6 @@
 -- Carried by the laws of `Answers`: each test as it came out, and one turn of the loop.
 use mathlib.Core.Path.{sym, _∙_}
+use native.Mathlib.Omega.{arith}
 use borrow.Author.Needs.{needs}
 use Rattle.unit.proofs.Answers as answers
 use Rattle.unit.proofs.cycle.Statement.{statement}
@@ -15,7 +16,7 @@ returns : tie.Need-returns
 returns c = answers.no-cycle-left _ (sym (c .before .before .before .well-made .ensures) ∙ c .before .before .if1 .taken) (sym (c .before .is-drained .ensures) ∙ c .if2 .taken)
 
 cycles-requires : tie.Need-cycles-requires
-cycles-requires c κs = let made = sym (c .before .before .before .well-made .ensures) ∙ c .before .before .if1 .taken in (made, answers.a-cycle-left _ made (sym (c .before .is-drained .ensures) ∙ c .if2 .left))
+cycles-requires c κs = let made = sym (c .before .before .before .well-made .ensures) ∙ c .before .before .if1 .taken in (made, omega (arith, answers.a-cycle-left _ made (sym (c .before .is-drained .ensures) ∙ c .if2 .left)))
 
 returns-2 : tie.Need-returns-2
 returns-2 c = answers.one-cycle _ (sym (c .before .before .before .before .well-made .ensures) ∙ c .before .before .before .if1 .taken) (sym (c .before .before .is-drained .ensures) ∙ c .before .if2 .left) (c .cycles .ensures)

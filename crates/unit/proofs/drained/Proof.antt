@@ -1,6 +1,6 @@
--- Carried by the laws of `Recorded`: a record that is well made, and one that is not.
+-- Carried by the laws of `Answers`: a record that is well made, and one that is not.
 use borrow.Author.Needs.{needs}
-use Rattle.unit.proofs.Recorded as recorded
+use Rattle.unit.proofs.Answers as answers
 use Rattle.unit.proofs.drained.Statement.{statement}
 use Rattle.unit.proofs.drained.Tie as tie
 
@@ -11,10 +11,10 @@ is-drained-requires : tie.Need-is-drained-requires
 is-drained-requires c κs = search needs
 
 returns : tie.Need-returns
-returns c = search (recorded.asked, needs)
+returns c = search (answers.asked, needs)
 
 returns-2 : tie.Need-returns-2
-returns-2 c = search (recorded.not-asked, needs)
+returns-2 c = search (answers.not-asked, needs)
 
 pub drained-spec : {M : Type 1} → statement M
 drained-spec = tie.close (tie.spec well-made-requires is-drained-requires returns returns-2)

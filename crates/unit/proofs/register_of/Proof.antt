@@ -1,6 +1,6 @@
--- Carried by the laws of `Recorded`: a record that is not well made, a number above 31, and a register.
+-- Carried by the laws of `Answers`: a record that is not well made, a number above 31, and a register.
 use borrow.Author.Needs.{needs}
-use Rattle.unit.proofs.Recorded as recorded
+use Rattle.unit.proofs.Answers as answers
 use Rattle.unit.proofs.register_of.Statement.{statement}
 use Rattle.unit.proofs.register_of.Tie as tie
 
@@ -8,7 +8,7 @@ well-made-requires : tie.Need-well-made-requires
 well-made-requires c κs = search needs
 
 returns : tie.Need-returns
-returns c = search (recorded.no-pointer, needs)
+returns c = search (answers.no-pointer, needs)
 
 mul-t7 : tie.Need-mul-t7
 mul-t7 c = search needs
@@ -17,10 +17,10 @@ array-copy-out-t10 : tie.Need-array-copy-out-t10
 array-copy-out-t10 c = search needs
 
 returns-2 : tie.Need-returns-2
-returns-2 c = search (recorded.that-register, needs)
+returns-2 c = search (answers.that-register, needs)
 
 returns-3 : tie.Need-returns-3
-returns-3 c = search (recorded.no-register, needs)
+returns-3 c = search (answers.no-register, needs)
 
 pub register-of-spec : {M : Type 1} → statement M
 register-of-spec =

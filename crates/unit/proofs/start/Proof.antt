@@ -1,4 +1,4 @@
--- Carried by `refused` and `begun`: the two answers of the reader.
+-- Carried by `refused` and `accepted`: the two answers of the reader.
 use borrow.Author.Needs.{needs}
 use Rattle.unit.proofs.Answers as answers
 use Rattle.unit.proofs.start.Statement.{statement}
@@ -11,10 +11,18 @@ returns : tie.Need-returns
 returns c = answers.refused _ _ (c .before .read-job .ensures) (c .if1 .taken)
 
 set-registers-requires : tie.Need-set-registers-requires
-set-registers-requires c κs = answers.few-registers _ (c .before .before .before .before .before .before .before .before .args .u) (c .before .before .before .before .before .before .read-job .ensures) (c .before .before .before .before .before .if1 .left)
+set-registers-requires c κs =
+    let s = c .before .before .before .before .before in
+    answers.few-registers _ (s .before .before .before .args .u) (s .before .read-job .ensures) (s .if1 .left)
+
+begun-requires : tie.Need-begun-requires
+begun-requires c κs = search needs
 
 returns-2 : tie.Need-returns-2
-returns-2 c = answers.begun _ _ (c .before .before .before .before .before .before .before .read-job .ensures) (c .before .before .before .before .before .before .if1 .left) (c .set-registers .ensures)
+returns-2 c =
+    let s = c .before .before .before .before .before .before .before in
+    answers.accepted _ _ (s .before .read-job .ensures) (s .if1 .left) (c .before .set-registers .ensures) (c .begun .ensures)
 
 pub start-spec : {M : Type 1} → statement M
-start-spec = tie.close (tie.spec read-job-requires returns set-registers-requires returns-2)
+start-spec =
+    tie.close (tie.spec read-job-requires returns set-registers-requires begun-requires returns-2)

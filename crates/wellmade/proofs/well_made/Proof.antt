@@ -2,9 +2,9 @@
 use mathlib.Core.Path.{sym}
 use borrow.Author.Needs.{needs}
 use lib.Seq.{length-take-le}
-use Rattle.unit.proofs.Recorded as recorded
-use Rattle.unit.proofs.made.well_made.Statement.{statement}
-use Rattle.unit.proofs.made.well_made.Tie as tie
+use Rattle.wellmade.proofs.Recorded as recorded
+use Rattle.wellmade.proofs.well_made.Statement.{statement}
+use Rattle.wellmade.proofs.well_made.Tie as tie
 
 cast-lines : tie.Need-cast-lines
 cast-lines c = search needs

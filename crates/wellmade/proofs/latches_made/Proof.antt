@@ -1,8 +1,8 @@
 -- Carried by the laws of `Recorded`: each test as it came out, in the order of the latches.
 use borrow.Author.Needs.{needs}
-use Rattle.unit.proofs.Recorded as recorded
-use Rattle.unit.proofs.made.latches_made.Statement.{statement}
-use Rattle.unit.proofs.made.latches_made.Tie as tie
+use Rattle.wellmade.proofs.Recorded as recorded
+use Rattle.wellmade.proofs.latches_made.Statement.{statement}
+use Rattle.wellmade.proofs.latches_made.Tie as tie
 
 should-hold-requires : tie.Need-should-hold-requires
 should-hold-requires c κs = search needs

@@ -1,8 +1,8 @@
 -- Carried by the laws of `Recorded`: each test as it came out, in the order of the code.
 use borrow.Author.Needs.{needs}
-use Rattle.unit.proofs.Recorded as recorded
-use Rattle.unit.proofs.made.is_drained.Statement.{statement}
-use Rattle.unit.proofs.made.is_drained.Tie as tie
+use Rattle.wellmade.proofs.Recorded as recorded
+use Rattle.wellmade.proofs.is_drained.Statement.{statement}
+use Rattle.wellmade.proofs.is_drained.Tie as tie
 
 returns : tie.Need-returns
 returns c = search (recorded.lines-left, needs)

@@ -1,4 +1,4 @@
--- The tests of a record in their order, each as it came out, and what the calls that ask a unit answer after them. Carried by rewriting with each test.
+-- The tests of a record in their order, each as it came out. Carried by rewriting with each test.
 -- Assumes nothing.
 use Prim.Native.Nat.{ℕ, _-_, _<_, _≤_, min}
 use mathlib.Core.Path.{_≡_, sym, ap, _∙_}
@@ -7,15 +7,13 @@ use mathlib.Core.List.{List, map, map-id}
 use native.Mathlib.Omega.{arith}
 use borrow.Author.Tests.{lt-ltb, le-ltb, le-leb, lt-leb, eq-eqb, ne-eqb}
 use lib.ListN.{length, getD, take}
-use Rattle.register.specs.Layout.{zeroRegister}
-use Rattle.table.specs.Refusal.{POINTER, STATE, firstBad}
+use Rattle.table.specs.Refusal.{firstBad}
 use Rattle.model.specs.declared.Instruction.{Instruction}
 use Rattle.model.specs.declared.IfId.{IfId}
 use Rattle.model.specs.declared.IfId.the-variants as IF/ID
 use Rattle.model.specs.declared.Unit.{Unit}
 use Rattle.model.specs.Cycle.{instructionOf}
 use Rattle.model.specs.Record.{inDecoded, inExecuted, isEmpty, drainedOf, lastOf, heldOf, sameHeld, wellMadeOf}
-use Rattle.model.specs.Calls.{registerOf, askedDrained}
 
 -- a number up to the size of an array that is a field
 pub within : (l : List ℕ) (i n : ℕ) → length (map (λ (x : ℕ). x) l) ≡ n → i ≤ n → i ≤ length l
@@ -98,26 +96,3 @@ module _ (u : Unit) where
       pub executed-decides : t ≡ true → {e : IfId} → e ≡ inExecuted (u .executed) → {r : Bool} → r ≡ isEmpty e → r ≡ drainedOf u
       unfolding drainedOf
       executed-decides h executed o = rw (le-leb _ _ all, ← first, empty, ← decoded, ← second, h, ← executed) o
-
--- ---- the calls that ask
-
-module _ (u : Unit) {t : Bool} (test : t ≡ wellMadeOf u) where
-  pub no-register : (i : ℕ) → t ≡ false → record { refusal = STATE; register = zeroRegister } ≡ registerOf u i
-  unfolding registerOf
-  no-register i h = rw (← test, h)
-
-  pub no-pointer : (i : ℕ) → t ≡ true → 31 < i → record { refusal = POINTER; register = zeroRegister } ≡ registerOf u i
-  unfolding registerOf
-  no-pointer i h above = rw (← test, h, lt-ltb _ _ above)
-
-  pub that-register : (i : ℕ) → t ≡ true → i ≤ 31 → record { refusal = 0; register = getD (u .registers) i zeroRegister } ≡ registerOf u i
-  unfolding registerOf
-  that-register i h below = rw (← test, h, le-ltb _ _ below)
-
-  pub not-asked : t ≡ false → record { refusal = STATE; drained = false } ≡ askedDrained u
-  unfolding askedDrained
-  not-asked h = rw (← test, h)
-
-  pub asked : t ≡ true → {s : Bool} → s ≡ drainedOf u → record { refusal = 0; drained = s } ≡ askedDrained u
-  unfolding askedDrained
-  asked h e = rw (← test, h, e)

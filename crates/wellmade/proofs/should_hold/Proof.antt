@@ -1,8 +1,8 @@
 -- Carried by the laws of `Recorded`: before the first line, past the last one, and at a line.
 use borrow.Author.Needs.{needs}
-use Rattle.unit.proofs.Recorded as recorded
-use Rattle.unit.proofs.made.should_hold.Statement.{statement}
-use Rattle.unit.proofs.made.should_hold.Tie as tie
+use Rattle.wellmade.proofs.Recorded as recorded
+use Rattle.wellmade.proofs.should_hold.Statement.{statement}
+use Rattle.wellmade.proofs.should_hold.Tie as tie
 
 returns : tie.Need-returns
 returns c = search (recorded.not-begun, needs)

@@ -1,19 +1,27 @@
-// Whether a record is well made, and whether the unit is drained.
+// Whether a unit's record is well made, and whether the unit is drained.
 
-ghost use Prim.Native.Nat.{_≤_};
+ghost use Prim.Native.Nat.{_≤_, min};
 ghost use mathlib.Core.Path.{_≡_};
 ghost use mathlib.Core.Bool.{_&&_};
 ghost use lib.ListN.{length};
 ghost use Rattle.model.specs.Record.{drainedOf, lastOf, heldOf, sameHeld, wellMadeOf};
-use crate::cycles::lesser;
 use model::IfId;
 use model::Unit;
 use stages::latches;
 use table::Count;
 use table::refusal;
 
+pub fn lesser(a: u32, b: u32) -> u32
+    ensures { λ r. ⌜ r ≡ min a b ⌝ }
+{
+    if a < b {
+        return a;
+    }
+    b
+}
+
 // The cycle number at which a program of n lines is drained.
-pub(crate) fn last(n: Count) -> u32
+pub fn last(n: Count) -> u32
     ensures { λ r. ⌜ r ≡ lastOf (n .0) ⌝ }
 {
     if n.0 == 0 {
@@ -89,7 +97,7 @@ pub fn well_made(u: Unit) -> bool
     )
 }
 
-pub(crate) fn is_drained(u: Unit) -> bool
+pub fn is_drained(u: Unit) -> bool
     ensures { λ r. ⌜ r ≡ drainedOf u ⌝ }
 {
     let n = u.n;
