@@ -15,7 +15,7 @@ use Rattle.front.proofs.Parts.{then-front}
 use Rattle.register.specs.declared.Register.{Register}
 use Rattle.register.specs.Layout.{wordAt, ofBytes}
 use Rattle.register.proofs.Made.{same}
-use Rattle.job.specs.Layout.{instructionsAt, fourBytes, headerBytes, registersIn, encode, pieces}
+use Rattle.job.specs.Layout.{instructionsAt, fourBytes, headerBytes, registerCount, encode, pieces}
 use Rattle.job.specs.Read.{filled}
 
 -- every element is below 2^8
@@ -124,14 +124,14 @@ job-size words bytes =
 
 -- header, words and register bytes, each at the front of the part behind the one before
 pub job-put : (words bytes old x y z : List ℕ)
-    → x ≡ atFront (headerBytes instructionsAt (length words) (registersIn bytes)) old
+    → x ≡ atFront (headerBytes instructionsAt (length words) (registerCount bytes)) old
     → y ≡ atFront (flatMap fourBytes words) (midOf 8 (length x - 8) x)
     → z ≡ atFront bytes (midOf (8 + 4 * length words) (length (putMid 8 (length x - 8) x y) - (8 + 4 * length words)) (putMid 8 (length x - 8) x y))
     → putMid (8 + 4 * length words) (length (putMid 8 (length x - 8) x y) - (8 + 4 * length words)) (putMid 8 (length x - 8) x y) z
     ≡ atFront (encode instructionsAt words bytes) old
 unfolding encode
 job-put words bytes old x y z e f g =
-    let header = headerBytes instructionsAt (length words) (registersIn bytes) in
+    let header = headerBytes instructionsAt (length words) (registerCount bytes) in
     then-front (8 + 4 * length words) (header ++ flatMap fourBytes words) bytes old _ z
     (omega (arith, pieces-size fourBytes 4 four-bytes words, length-append header (flatMap fourBytes words)))
     (then-front 8 header (flatMap fourBytes words) old x y refl e f) g

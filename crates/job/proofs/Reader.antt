@@ -13,7 +13,7 @@ use Rattle.front.specs.Front.{atFront}
 use Rattle.table.specs.Refusal.{firstBad}
 use Rattle.job.specs.declared.ReadJob.{ReadJob}
 use Rattle.job.specs.declared.Written.{Written}
-use Rattle.job.specs.Layout.{instructionsAt, LARGEST, registersAt, sizeOf, registersIn, encode, twoAt, wordsIn, registersOf}
+use Rattle.job.specs.Layout.{instructionsAt, LARGEST, registersAt, sizeOf, registerCount, encode, twoAt, wordsIn, registersOf}
 use Rattle.job.specs.Read.{filled, jobOf, acceptedOf, readOf}
 use Rattle.job.specs.Write.{writtenOf, writeOf, programOf, registerBytesOf}
 use Rattle.job.proofs.Pieces.{Bytes, job-size}
@@ -25,7 +25,7 @@ use Rattle.job.proofs.RoundTrip.{says-n, says-words, says-bytes, read-e
 -- Reading what the writer put at the front of a buffer gives the same job.
 pub read-written : (words bytes out : List ℕ) → writeOf instructionsAt words bytes out .0 .refusal ≡ 0
     → readOf instructionsAt (take (writeOf instructionsAt words bytes out .0 .size) (writeOf instructionsAt words bytes out .1))
-    ≡ acceptedOf (jobOf words (registersOf (registersIn bytes) bytes))
+    ≡ acceptedOf (jobOf words (registersOf (registerCount bytes) bytes))
 read-written words bytes out e =
     let a = accepts instructionsAt words bytes out e in
     let job = encode instructionsAt words bytes in
@@ -102,7 +102,7 @@ largest-written = refl
 
 -- "The whole is exactly 8+4n+16r bytes": what the writer answers as the size.
 pub size-written : (words bytes out : List ℕ) → writeOf instructionsAt words bytes out .0 .refusal ≡ 0
-    → writeOf instructionsAt words bytes out .0 .size ≡ sizeOf instructionsAt (length words) (registersIn bytes)
+    → writeOf instructionsAt words bytes out .0 .size ≡ sizeOf instructionsAt (length words) (registerCount bytes)
 size-written words bytes out e =
     let a = accepts instructionsAt words bytes out e in
     let whole = a .job .whole in

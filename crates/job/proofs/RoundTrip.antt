@@ -15,7 +15,7 @@ use Rattle.register.proofs.ByteOrder.{word-of-its-bytes, next, bytes-of-word-at
 use Rattle.register.proofs.Reader.{bytes-then-rest}
 use Rattle.table.specs.Refusal.{firstBad}
 use Rattle.job.specs.declared.ReadJob.{ReadJob}
-use Rattle.job.specs.Layout.{instructionsAt, registersAt, twoBytes, fourBytes, headerBytes, registersIn, encode, twoAt, wordsIn, registersOf}
+use Rattle.job.specs.Layout.{instructionsAt, registersAt, twoBytes, fourBytes, headerBytes, registerCount, encode, twoAt, wordsIn, registersOf}
 use Rattle.job.specs.Read.{jobOf, acceptedOf, bodyOf, readOf}
 use Rattle.job.specs.Write.{programOf, registerBytesOf}
 use Rattle.job.proofs.Pieces.{Bytes, bytes-behind, length-pieces, pieces-size, pieces-back, four-bytes, job-size}
@@ -47,7 +47,7 @@ module _ (words bytes : List ℕ) (w : Writable words bytes) where
   unfolding encode
   says-n = let few = w .few in omega arith
 
-  says-r : twoAt file 2 ≡ registersIn bytes
+  says-r : twoAt file 2 ≡ registerCount bytes
   unfolding encode
   says-r = let fewer = w .fewer in omega arith
 
@@ -86,7 +86,7 @@ module _ (words bytes : List ℕ) (w : Writable words bytes) where
       sym (drop-drop (4 * length words) 8 (encode instructionsAt words bytes))
       ∙ drop-at (flatMap fourBytes words) bytes (4 * length words) (pieces-size fourBytes 4 four-bytes words)
 
-  pub read-encoded : readOf instructionsAt file ≡ acceptedOf (jobOf words (registersOf (registersIn bytes) bytes))
+  pub read-encoded : readOf instructionsAt file ≡ acceptedOf (jobOf words (registersOf (registerCount bytes) bytes))
   unfolding bodyOf
   read-encoded =
       rw (header-counts instructionsAt file header-written, says-n, says-r, says-words, says-bytes, le-ltb _ _ (w .good))
@@ -156,7 +156,7 @@ module _ (l : List ℕ) (b : Bytes l) (a : Accepted instructionsAt l) where
   file-back : encode instructionsAt words (flatMap bytesOf registers) ≡ l
   unfolding encode
   file-back =
-      let count : registersIn (flatMap bytesOf registers) ≡ r = omega (arith, bytes-counted) in
+      let count : registerCount (flatMap bytesOf registers) ≡ r = omega (arith, bytes-counted) in
       (λ i. headerBytes instructionsAt (words-counted i) (count i) ++ flatMap fourBytes words ++ flatMap bytesOf registers)
       ∙ ap (λ (t : List ℕ). headerBytes instructionsAt n r ++ t) words-and-registers-back
       ∙ header-back

@@ -36,12 +36,12 @@ abbrev pub headerBytes : ℕ → ℕ → ℕ → List ℕ
 headerBytes at n r = twoBytes n ++ twoBytes r ++ twoBytes at ++ twoBytes (registersAt at n)
 
 -- "each register takes 16": how many registers the bytes are
-abbrev pub registersIn : List ℕ → ℕ
-registersIn bytes = length bytes / 16
+abbrev pub registerCount : List ℕ → ℕ
+registerCount bytes = length bytes / 16
 
 -- the bytes of a job, from its instruction words and its registers' bytes
 unfoldable pub encode : ℕ → List ℕ → List ℕ → List ℕ
-encode at words bytes = headerBytes at (length words) (registersIn bytes) ++ flatMap fourBytes words ++ bytes
+encode at words bytes = headerBytes at (length words) (registerCount bytes) ++ flatMap fourBytes words ++ bytes
 
 -- ---- what is read
 

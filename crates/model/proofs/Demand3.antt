@@ -7,7 +7,7 @@ use mathlib.Core.Bool.{Bool, true, false, cond}
 use mathlib.Core.List.{List, map}
 use native.Mathlib.Nat.{zero-add, le-refl}
 use native.Mathlib.Omega.{arith}
-use borrow.Author.Tests.{ne-eqb, eq-eqb, eqb-true, leb-true, leb-false}
+use borrow.Author.Tests.{eq-eqb, eqb-true, leb-true, leb-false}
 use lib.Dec.{eqb, leb}
 use lib.ListN.{getD, take, length}
 use lib.Seq.{take-all, length-take-le}
@@ -31,7 +31,7 @@ use Rattle.model.specs.Calls.{goneOf, registersSet, loadedOf, startOf, c
 use Rattle.model.proofs.Control.{drained-after, placed-cycles, cycles-n, cycles-program, cycles-number}
 use Rattle.model.proofs.Made.{WellMade, well-made-test, well-made-cycles, cycles-join, leftOf}
 use Rattle.model.proofs.Machine.{Whole}
-use Rattle.model.proofs.FromStart.{Sound, Call, unitAfterAll, cyclesInAll, all-made, ran, sound-read, started-is, set-from-file, left-as-they-were, well-made-started, registers-started, afterCalls, next-call, no-call, calls-are-cycles}
+use Rattle.model.proofs.FromStart.{Sound, Call, unitAfterAll, cyclesInAll, all-made, ran, start-refused, sound-read, started-is, set-from-file, left-as-they-were, well-made-started, registers-started, afterCalls, next-call, no-call, calls-are-cycles}
 
 -- ---- the start
 
@@ -43,8 +43,7 @@ demand3-start-answers file u = (refl, refl)
 
 -- Refused, the unit comes back as it was given.
 pub demand3-start-refused : (file : List ℕ) (u : Unit) → (readOf instructionsAt file .refusal ≡ 0 → ⊥) → startOf file u .unit ≡ u
-unfolding startOf
-demand3-start-refused file u h = rw (ne-eqb _ _ h)
+demand3-start-refused = start-refused
 
 -- No leftover matters: of two units with equal registers, whatever else differs, an accepted start makes the same unit, and gives the same answer.
 pub demand3-no-leftover : (file : List ℕ) (u v : Unit) → startOf file u .refusal ≡ 0 → u .registers ≡ v .registers → startOf file u ≡ startOf file v

@@ -11,7 +11,7 @@ use lib.ListN.{length, take}
 use Rattle.front.specs.Front.{atFront}
 use Rattle.job.specs.declared.ReadJob.{ReadJob}
 use Rattle.job.specs.declared.Written.{Written}
-use Rattle.job.specs.Layout.{instructionsAt, registersIn, registersOf}
+use Rattle.job.specs.Layout.{instructionsAt, registerCount, registersOf}
 use Rattle.job.specs.Read.{jobOf, acceptedOf, readOf}
 use Rattle.job.specs.Write.{writtenOf, writeOf, programOf, registerBytesOf}
 use Rattle.job.proofs.Pieces.{Bytes}
@@ -61,7 +61,7 @@ write-is run = run .meets
 
 -- Reading what the writer put at the front of a buffer gives the same job.
 pub read-written : (w : Writing) (r : Reading) → w .answer .refusal ≡ 0 → file r ≡ take (w .answer .size) (after w)
-    → r .answer ≡ acceptedOf (jobOf (words w) (registersOf (registersIn (bytes w)) (bytes w)))
+    → r .answer ≡ acceptedOf (jobOf (words w) (registersOf (registerCount (bytes w)) (bytes w)))
 read-written w r e f =
     read-is r
     ∙ ap (readOf instructionsAt) f

@@ -5,7 +5,7 @@ use mathlib.Core.Path.{_≡_, sym, ap, _∙_}
 use mathlib.Core.Bool.{Bool, true, false}
 use mathlib.Core.List.{List}
 use native.Mathlib.Omega.{arith}
-use borrow.Author.Tests.{eq-eqb, ne-eqb, lt-ltb, le-ltb, leb-false}
+use borrow.Author.Tests.{eq-eqb, ne-eqb, leb-false}
 use lib.ListN.{getD}
 use Rattle.register.specs.declared.Register.{Register}
 use Rattle.register.specs.Layout.{zeroRegister}
@@ -23,6 +23,7 @@ use Rattle.model.specs.Calls.{begunOf, registersSet, startOf, cycledOf, ranOf, 
 use Rattle.model.proofs.Control.{drained-is}
 use Rattle.model.proofs.Made.{well-made-says, goes-on}
 use Rattle.model.proofs.FromStart.{sound-read}
+use Rattle.model.proofs.Reader.{ill-made-refused, register-over-31, register-to-31}
 
 -- ---- a start
 
@@ -44,12 +45,10 @@ module _ (file : List ℕ) (u : Unit) {read : ReadJob} (reads : read ≡ readOf 
 
 module _ (u : Unit) where
   pub ill-made-cycle : wellMadeOf u ≡ false → _≡_ {A = Cycled} (record { refusal = STATE; unit = u }) (cycledOf u)
-  unfolding cycledOf
-  ill-made-cycle h = rw h
+  ill-made-cycle h = sym (ill-made-refused u h .0)
 
   pub ill-made-run : (k : ℕ) → wellMadeOf u ≡ false → _≡_ {A = Ran} (record { refusal = STATE; made = 0; unit = u }) (ranOf u k)
-  unfolding ranOf
-  ill-made-run k h = rw h
+  ill-made-run k h = sym (ill-made-refused u h .1 k)
 
   module _ (made : wellMadeOf u ≡ true) where
     pub no-cycle-left : drainedOf u ≡ true → _≡_ {A = Cycled} (record { refusal = DRAINED; unit = u }) (cycledOf u)
@@ -77,20 +76,16 @@ module _ (u : Unit) where
 
 module _ (u : Unit) {t : Bool} (test : t ≡ wellMadeOf u) where
   pub no-register : (i : ℕ) → t ≡ false → record { refusal = STATE; register = zeroRegister } ≡ registerOf u i
-  unfolding registerOf
-  no-register i h = rw (← test, h)
+  no-register i h = sym (ill-made-refused u (sym test ∙ h) .2 i)
 
   pub no-pointer : (i : ℕ) → t ≡ true → 31 < i → record { refusal = POINTER; register = zeroRegister } ≡ registerOf u i
-  unfolding registerOf
-  no-pointer i h above = rw (← test, h, lt-ltb _ _ above)
+  no-pointer i h above = sym (register-over-31 u i (sym test ∙ h) above)
 
   pub that-register : (i : ℕ) → t ≡ true → i ≤ 31 → record { refusal = 0; register = getD (u .registers) i zeroRegister } ≡ registerOf u i
-  unfolding registerOf
-  that-register i h below = rw (← test, h, le-ltb _ _ below)
+  that-register i h below = sym (register-to-31 u i (sym test ∙ h) below)
 
   pub not-asked : t ≡ false → record { refusal = STATE; drained = false } ≡ askedDrained u
-  unfolding askedDrained
-  not-asked h = rw (← test, h)
+  not-asked h = sym (ill-made-refused u (sym test ∙ h) .3)
 
   pub asked : t ≡ true → {s : Bool} → s ≡ drainedOf u → record { refusal = 0; drained = s } ≡ askedDrained u
   unfolding askedDrained
