@@ -1,7 +1,7 @@
 -- Pieces of k bytes, one after another: read one more, read back from what was written, and written back from what was read. Carried by induction
 -- on their number, once for words and registers.
 -- Assumes nothing.
-use Prim.Native.Nat.{ℕ, zero, suc, _+_, _-_, _*_, _^_, _≤_, _<_}
+use Prim.Native.Nat.{ℕ, zero, suc, _+_, _-_, _*_, _≤_, _<_}
 use mathlib.Core.Path.{_≡_, refl, sym, ap, _∙_}
 use mathlib.Core.List.{List, [], _∷_, _++_, flatMap, append-assoc, append-nil}
 use native.Mathlib.Nat.{add-assoc, add-zero}
@@ -15,12 +15,8 @@ use Rattle.front.proofs.Parts.{then-front}
 use Rattle.register.specs.declared.Register.{Register}
 use Rattle.register.specs.Layout.{wordAt, ofBytes}
 use Rattle.register.proofs.Made.{same}
-use Rattle.job.specs.Layout.{instructionsAt, fourBytes, headerBytes, registerCount, encode, pieces}
+use Rattle.job.specs.Layout.{Bytes, instructionsAt, fourBytes, headerBytes, registerCount, encode, pieces}
 use Rattle.job.specs.Read.{filled}
-
--- every element is below 2^8
-abbrev pub Bytes : List ℕ → Type 0
-Bytes l = (i : ℕ) → getD l i 0 < 2 ^ 8
 
 pub bytes-behind : (k : ℕ) (l : List ℕ) → Bytes l → Bytes (drop k l)
 bytes-behind k l b i = rw (getD-drop k l i 0) (b (k + i))

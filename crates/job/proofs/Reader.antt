@@ -13,10 +13,10 @@ use Rattle.front.specs.Front.{atFront}
 use Rattle.table.specs.Refusal.{firstBad}
 use Rattle.job.specs.declared.ReadJob.{ReadJob}
 use Rattle.job.specs.declared.Written.{Written}
-use Rattle.job.specs.Layout.{instructionsAt, LARGEST, registersAt, sizeOf, registerCount, encode, twoAt, wordsIn, registersOf}
+use Rattle.job.specs.Layout.{Bytes, instructionsAt, LARGEST, registersAt, sizeOf, registerCount, encode, twoAt, wordsIn, registersOf}
 use Rattle.job.specs.Read.{filled, jobOf, acceptedOf, readOf}
 use Rattle.job.specs.Write.{writtenOf, writeOf, programOf, registerBytesOf}
-use Rattle.job.proofs.Pieces.{Bytes, job-size}
+use Rattle.job.proofs.Pieces.{job-size}
 use Rattle.job.proofs.Tests.{accepts, written, accepted}
 use Rattle.job.proofs.RoundTrip.{says-n, says-words, says-bytes, read-encoded, file-again, bytes-again, accepts-again}
 

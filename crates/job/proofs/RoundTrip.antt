@@ -15,10 +15,10 @@ use Rattle.register.proofs.ByteOrder.{word-of-its-bytes, next, bytes-of-word-at
 use Rattle.register.proofs.Reader.{bytes-then-rest}
 use Rattle.table.specs.Refusal.{firstBad}
 use Rattle.job.specs.declared.ReadJob.{ReadJob}
-use Rattle.job.specs.Layout.{instructionsAt, registersAt, twoBytes, fourBytes, headerBytes, registerCount, encode, twoAt, wordsIn, registersOf}
+use Rattle.job.specs.Layout.{Bytes, instructionsAt, registersAt, twoBytes, fourBytes, headerBytes, registerCount, encode, twoAt, wordsIn, registersOf}
 use Rattle.job.specs.Read.{jobOf, acceptedOf, bodyOf, readOf}
 use Rattle.job.specs.Write.{programOf, registerBytesOf}
-use Rattle.job.proofs.Pieces.{Bytes, bytes-behind, length-pieces, pieces-size, pieces-back, four-bytes, job-size}
+use Rattle.job.proofs.Pieces.{bytes-behind, length-pieces, pieces-size, pieces-back, four-bytes, job-size}
 use Rattle.job.proofs.Tests.{Writable, Accepts, Header-taken, header-counts, Accepted, read, jobIn}
 
 -- ---- read again what was written

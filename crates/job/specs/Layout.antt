@@ -1,6 +1,6 @@
 -- The job file of document 01, over the offset `at` of its instructions.
 -- Assumes nothing.
-use Prim.Native.Nat.{ℕ, zero, suc, _+_, _*_, _/_, _%_, _^_}
+use Prim.Native.Nat.{ℕ, zero, suc, _+_, _*_, _/_, _%_, _^_, _<_}
 use mathlib.Core.List.{List, [], _∷_, _++_, flatMap}
 use lib.ListN.{length, getD, drop}
 use Rattle.register.specs.declared.Register.{Register}
@@ -44,6 +44,10 @@ unfoldable pub encode : ℕ → List ℕ → List ℕ → List ℕ
 encode at words bytes = headerBytes at (length words) (registerCount bytes) ++ flatMap fourBytes words ++ bytes
 
 -- ---- what is read
+
+-- a list of bytes, as a file that is lent as `&[u8]` is
+abbrev pub Bytes : List ℕ → Type 0
+Bytes l = (i : ℕ) → getD l i 0 < 2 ^ 8
 
 -- "least significant byte first": the number of two bytes, and of the two from i on
 abbrev pub twoOfBytes : ℕ → ℕ → ℕ

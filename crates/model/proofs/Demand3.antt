@@ -1,5 +1,5 @@
 -- Demand 3: for any job that a start accepts, on any unit before it, whether or not its last job had finished. Stated over what the calls promise
--- (specs/Calls.antt). A unit's file of registers is 32 long (`Whole`), as `[Register; 32]` is.
+-- (specs/Calls.antt), one after another (specs/Sequence.antt). A unit's file of registers is 32 long (`Whole`), as `[Register; 32]` is.
 -- Assumes nothing.
 use Prim.Native.Nat.{ℕ, _+_, _-_, _≤_, _<_, min}
 use mathlib.Core.Path.{_≡_, refl, sym, ap, _∙_}
@@ -28,10 +28,10 @@ use Rattle.model.specs.declared.Cycled.{Cycled}
 use Rattle.model.specs.Cycle.{cyclesOf}
 use Rattle.model.specs.Record.{inDecoded, inExecuted, drainedOf, lastOf, heldOf, wellMadeOf}
 use Rattle.model.specs.Calls.{goneOf, registersSet, loadedOf, startOf, cycledOf, ranOf}
+use Rattle.model.specs.Sequence.{Whole, afterCalls, Call, unitAfterAll, cyclesInAll}
 use Rattle.model.proofs.Control.{drained-after, placed-cycles, cycles-n, cycles-program, cycles-number}
 use Rattle.model.proofs.Made.{WellMade, well-made-test, well-made-cycles, cycles-join, leftOf}
-use Rattle.model.proofs.Machine.{Whole}
-use Rattle.model.proofs.FromStart.{Sound, Call, unitAfterAll, cyclesInAll, all-made, ran, start-refused, sound-read, started-is, set-from-file, left-as-they-were, well-made-started, registers-started, afterCalls, next-call, no-call, calls-are-cycles}
+use Rattle.model.proofs.FromStart.{Sound, all-made, ran, start-refused, sound-read, started-is, set-from-file, left-as-they-were, well-made-started, registers-started, next-call, no-call, calls-are-cycles}
 
 -- ---- the start
 

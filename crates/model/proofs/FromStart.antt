@@ -28,9 +28,11 @@ use Rattle.model.specs.declared.Ran.{Ran}
 use Rattle.model.specs.Cycle.{cyclesOf}
 use Rattle.model.specs.Record.{lastOf}
 use Rattle.model.specs.Calls.{goneOf, registersSet, loadedOf, startOf, cycledOf, ranOf}
+use Rattle.model.specs.Sequence.{Whole, afterCalls, Call, unitAfter, cyclesIn, unitAfterAll, cyclesInAll}
+use Rattle.model.specs.Sequence.Call.{cycle, run, register, drained, refusedStart}
 use Rattle.model.proofs.Control.{drained-after, cycles-n, cycles-number}
 use Rattle.model.proofs.Made.{WellMade, well-made-test, well-made-gone, well-made-cycles, cycles-join, leftOf, goes-on}
-use Rattle.model.proofs.Machine.{Whole, registers-after}
+use Rattle.model.proofs.Machine.{registers-after}
 
 -- ---- a job that was read
 
@@ -105,11 +107,6 @@ module _ (j : Job) (u : Unit) (s : Sound j) where
 
 -- ---- calls of `cycle` on a well-made unit
 
--- so many calls of `cycle`, one after another
-abbrev pub afterCalls : ℕ → Unit → Unit
-afterCalls zero u = u
-afterCalls (suc c) u = cycledOf (afterCalls c u) .unit
-
 module _ (u : Unit) (w : WellMade u) where
   -- the next call makes a cycle where the last is not reached, and is refused there
   pub next-call : (c : ℕ) → u .cycle + c < lastOf (u .n .0) → cycledOf (cyclesOf c u) ≡ record { refusal = 0; unit = cyclesOf (suc c) u }
@@ -129,38 +126,6 @@ module _ (u : Unit) (w : WellMade u) where
       ap (λ (v : Unit). cycledOf v .unit) (calls-are-cycles c (omega arith)) ∙ ap (λ (a : Cycled). a .unit) (next-call c (omega arith))
 
 -- ---- any calls on a well-made unit
-
--- a call that is no accepted start
-pub data Call : Type 0 where
-  cycle : Call
-  run : ℕ → Call
-  register : ℕ → Call
-  drained : Call
-  refusedStart : (file : List ℕ) → (readOf instructionsAt file .refusal ≡ 0 → ⊥) → Call
-
--- the unit after a call, and the cycles made in it: a register call and the question whether it is drained hand no unit back
-abbrev pub unitAfter : Call → Unit → Unit
-unitAfter cycle u = cycledOf u .unit
-unitAfter (run k) u = ranOf u k .unit
-unitAfter (register i) u = u
-unitAfter drained u = u
-unitAfter (refusedStart file h) u = startOf file u .unit
-
-abbrev pub cyclesIn : Call → Unit → ℕ
-cyclesIn cycle u = cond (eqb (cycledOf u .refusal) 0) 1 0
-cyclesIn (run k) u = ranOf u k .made
-cyclesIn (register i) u = 0
-cyclesIn drained u = 0
-cyclesIn (refusedStart file h) u = 0
-
--- the same of calls one after another
-abbrev pub unitAfterAll : List Call → Unit → Unit
-unitAfterAll [] u = u
-unitAfterAll (x ∷ calls) u = unitAfterAll calls (unitAfter x u)
-
-abbrev pub cyclesInAll : List Call → Unit → ℕ
-cyclesInAll [] u = 0
-cyclesInAll (x ∷ calls) u = cyclesIn x u + cyclesInAll calls (unitAfter x u)
 
 pub start-refused : (file : List ℕ) (u : Unit) → (readOf instructionsAt file .refusal ≡ 0 → ⊥) → startOf file u .unit ≡ u
 unfolding startOf

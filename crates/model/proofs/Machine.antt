@@ -35,6 +35,7 @@ use Rattle.model.specs.declared.ExWb.the-variants as EX/WB
 use Rattle.model.specs.declared.Unit.{Unit}
 use Rattle.model.specs.Cycle.{instructionOf, afterWB, isTarget, newestOperands, operandsIn, afterEX, afterID, afterIF, cycleOf, cyclesOf}
 use Rattle.model.specs.Calls.{goneOf}
+use Rattle.model.specs.Sequence.{Whole}
 use Rattle.model.proofs.Control.{fetch-min, next-min}
 
 -- ---- the unit's stages, on the words of instructions
@@ -53,10 +54,6 @@ machine = record {
   work = worked;
   commit = λ j o f. stored (targetOf j) (o .value) f;
 }
-
--- a file of 32 registers
-abbrev pub Whole : List Register → Type 0
-Whole f = length f ≡ 32
 
 -- a target that is a register of the file
 abbrev Within : Target → List Register → Type 0

@@ -1,3 +1,4 @@
 pub mod Cycle
 pub mod Record
 pub mod Calls
+pub mod Sequence

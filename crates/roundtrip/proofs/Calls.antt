@@ -11,10 +11,9 @@ use lib.ListN.{length, take}
 use Rattle.front.specs.Front.{atFront}
 use Rattle.job.specs.declared.ReadJob.{ReadJob}
 use Rattle.job.specs.declared.Written.{Written}
-use Rattle.job.specs.Layout.{instructionsAt, registerCount, registersOf}
+use Rattle.job.specs.Layout.{Bytes, instructionsAt, registerCount, registersOf}
 use Rattle.job.specs.Read.{jobOf, acceptedOf, readOf}
 use Rattle.job.specs.Write.{writtenOf, writeOf, programOf, registerBytesOf}
-use Rattle.job.proofs.Pieces.{Bytes}
 use Rattle.job.proofs.Reader as reader
 use Rattle.reader.proofs.read_job.Kinds as read-kinds
 use Rattle.reader.proofs.read_job.Reads as read-reads
