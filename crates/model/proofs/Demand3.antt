@@ -37,9 +37,9 @@ use Rattle.model.proofs.FromStart.{Sound, all-made, ran, start-refused,
 
 -- A start answers the reader's refusal and place, for every file and every unit.
 pub demand3-start-answers : (file : List ℕ) (u : Unit)
-    → (startOf file u .refusal ≡ readOf instructionsAt file .refusal) × (startOf file u .place ≡ readOf instructionsAt file .place)
+    → _≡_ {A = ℕ × ℕ} (startOf file u .refusal, startOf file u .place) (readOf instructionsAt file .refusal, readOf instructionsAt file .place)
 unfolding startOf
-demand3-start-answers file u = (refl, refl)
+demand3-start-answers file u = refl
 
 -- Refused, the unit comes back as it was given.
 pub demand3-start-refused : (file : List ℕ) (u : Unit) → (readOf instructionsAt file .refusal ≡ 0 → ⊥) → startOf file u .unit ≡ u
