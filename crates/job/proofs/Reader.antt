@@ -11,6 +11,7 @@ use lib.ListN.{length, getD, take, drop, replicate}
 use lib.Seq.{take-append-seam}
 use Rattle.front.specs.Front.{atFront}
 use Rattle.table.specs.Refusal.{firstBad}
+use Rattle.table.proofs.Rows.{all-alike}
 use Rattle.job.specs.declared.ReadJob.{ReadJob}
 use Rattle.job.specs.declared.Written.{Written}
 use Rattle.job.specs.Layout.{Bytes, instructionsAt, LARGEST, registersAt, sizeOf, registerCount, encode, twoAt, wordsIn, registersOf}
@@ -112,12 +113,7 @@ size-written words bytes out e =
 pub zero-beyond : {A : Type 0} (size : ℕ) (none : A) (l : List A) (i : ℕ) → length l ≤ i → getD (filled size none l) i none ≡ none
 zero-beyond {A} size none l i h = behind l i (size - length l) h
   where
-    all : (m i : ℕ) → getD (replicate m none) i none ≡ none
-    all zero i = refl
-    all (suc m) zero = refl
-    all (suc m) (suc i) = all m i
-
     behind : (l : List A) (i m : ℕ) → length l ≤ i → getD (l ++ replicate m none) i none ≡ none
-    behind [] i m h = all m i
+    behind [] i m h = all-alike none m i
     behind (x ∷ l) zero m h = absurd (not-suc-le-zero h)
     behind (x ∷ l) (suc i) m h = behind l i m (le-of-suc-le-suc h)

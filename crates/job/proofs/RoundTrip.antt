@@ -1,4 +1,5 @@
--- What the bytes of a job say when they are read, and what a file that was read is when it is written again. Carried by the laws of `Pieces` and by what the tests leave known of a file or a job that they accept.
+-- What the bytes of a job say when they are read, and what a file that was read is when it is written again. Carried by the laws of `Pieces` and by what
+-- the tests leave known of a file or a job that they accept.
 -- Assumes nothing.
 use Prim.Native.Nat.{ℕ, suc, _+_, _*_, _/_, _%_, _^_, _≤_}
 use mathlib.Core.Path.{_≡_, refl, sym, ap, subst, _∙_}

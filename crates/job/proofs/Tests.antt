@@ -26,6 +26,10 @@ use Rattle.job.proofs.Pieces.{length-pieces}
 
 -- ---- the header
 
+or-true : (b : Bool) → (b || true) ≡ true
+or-true true = refl
+or-true false = refl
+
 module _ (at n r first second size : ℕ) where
   pub over-count : 64 < n → Refused COUNT ≡ testedOf at n r first second size
   unfolding testedOf
@@ -41,19 +45,18 @@ module _ (at n r first second size : ℕ) where
       unfolding testedOf
       wrong-first h = rw (le-ltb _ _ few, le-ltb _ _ fewer, ne-eqb _ _ h)
 
-      module _ (right : first ≡ at) where
-        pub wrong-second : (second ≡ registersAt at n → ⊥) → Refused PLACE ≡ testedOf at n r first second size
+      pub wrong-second : (second ≡ registersAt at n → ⊥) → Refused PLACE ≡ testedOf at n r first second size
+      unfolding testedOf
+      wrong-second h = rw (le-ltb _ _ few, le-ltb _ _ fewer, ne-eqb _ _ h, or-true (not (eqb first at)))
+
+      module _ (right : first ≡ at) (right′ : second ≡ registersAt at n) where
+        pub wrong-size : (size ≡ sizeOf at n r → ⊥) → Refused LENGTH ≡ testedOf at n r first second size
         unfolding testedOf
-        wrong-second h = rw (le-ltb _ _ few, le-ltb _ _ fewer, eq-eqb _ _ right, ne-eqb _ _ h)
+        wrong-size h = rw (le-ltb _ _ few, le-ltb _ _ fewer, eq-eqb _ _ right, eq-eqb _ _ right′, ne-eqb _ _ h)
 
-        module _ (right′ : second ≡ registersAt at n) where
-          pub wrong-size : (size ≡ sizeOf at n r → ⊥) → Refused LENGTH ≡ testedOf at n r first second size
-          unfolding testedOf
-          wrong-size h = rw (le-ltb _ _ few, le-ltb _ _ fewer, eq-eqb _ _ right, eq-eqb _ _ right′, ne-eqb _ _ h)
-
-          pub all-right : size ≡ sizeOf at n r → Counts (record { 0 = n }) r ≡ testedOf at n r first second size
-          unfolding testedOf
-          all-right h = rw (le-ltb _ _ few, le-ltb _ _ fewer, eq-eqb _ _ right, eq-eqb _ _ right′, eq-eqb _ _ h)
+        pub all-right : size ≡ sizeOf at n r → Counts (record { 0 = n }) r ≡ testedOf at n r first second size
+        unfolding testedOf
+        all-right h = rw (le-ltb _ _ few, le-ltb _ _ fewer, eq-eqb _ _ right, eq-eqb _ _ right′, eq-eqb _ _ h)
 
 pub short : (at : ℕ) (l : List ℕ) → length l < 8 → Refused SHORT ≡ headerOf at l
 unfolding headerOf

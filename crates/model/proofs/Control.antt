@@ -1,5 +1,5 @@
 -- Where count and latches stand, and when a unit is drained: of any record whose count and latches are where its cycle number puts them, whatever values
--- are latched. Carried by the four ways in which a cycle number can lie to n.
+-- are latched. Carried by the five places that a cycle number can have with regard to n.
 -- Assumes nothing.
 use Prim.Native.Nat.{ℕ, zero, suc, _+_, _-_, _≤_, _<_, min}
 use mathlib.Core.Path.{_≡_, refl, _∙_}
@@ -18,6 +18,23 @@ use Rattle.model.specs.declared.ExWb.{ExWb}
 use Rattle.model.specs.declared.Unit.{Unit}
 use Rattle.model.specs.Cycle.{afterEX, afterID, afterIF, countAfter, cycleOf, cyclesOf}
 use Rattle.model.specs.Record.{inDecoded, inExecuted, isEmpty, drainedOf, lastOf, heldOf}
+
+-- ---- what cycles leave alone
+
+pub cycles-n : (c : ℕ) (u : Unit) → cyclesOf c u .n ≡ u .n
+unfolding cyclesOf cycleOf
+cycles-n zero u = refl
+cycles-n (suc c) u = cycles-n c u
+
+pub cycles-program : (c : ℕ) (u : Unit) → cyclesOf c u .program ≡ u .program
+unfolding cyclesOf cycleOf
+cycles-program zero u = refl
+cycles-program (suc c) u = cycles-program c u
+
+pub cycles-number : (c : ℕ) (u : Unit) → cyclesOf c u .cycle ≡ u .cycle + c
+unfolding cyclesOf cycleOf
+cycles-number zero u = omega arith
+cycles-number (suc c) u = let h = cycles-number c u in omega arith
 
 -- count and latches are where the cycle number puts them
 pub record Placed (u : Unit) : Type 0 where
@@ -146,23 +163,6 @@ all-empty p (suc n) c = rw (ne-eqb (suc n) 0 (omega arith)) (go (whereabouts (su
 -- drained exactly from the last cycle on
 pub drained-is : (u : Unit) → Placed u → drainedOf u ≡ leb (lastOf (u .n .0)) (u .cycle)
 drained-is u h = drained-held u h ∙ all-empty (u .program) (u .n .0) (u .cycle)
-
--- ---- what cycles leave alone
-
-pub cycles-n : (c : ℕ) (u : Unit) → cyclesOf c u .n ≡ u .n
-unfolding cyclesOf cycleOf
-cycles-n zero u = refl
-cycles-n (suc c) u = cycles-n c u
-
-pub cycles-program : (c : ℕ) (u : Unit) → cyclesOf c u .program ≡ u .program
-unfolding cyclesOf cycleOf
-cycles-program zero u = refl
-cycles-program (suc c) u = cycles-program c u
-
-pub cycles-number : (c : ℕ) (u : Unit) → cyclesOf c u .cycle ≡ u .cycle + c
-unfolding cyclesOf cycleOf
-cycles-number zero u = omega arith
-cycles-number (suc c) u = let h = cycles-number c u in omega arith
 
 pub drained-after : (u : Unit) → Placed u → (c : ℕ) → drainedOf (cyclesOf c u) ≡ leb (lastOf (u .n .0)) (u .cycle + c)
 drained-after u h c = drained-is (cyclesOf c u) (placed-cycles c u h) ∙ rw (cycles-n c u, cycles-number c u)

@@ -73,16 +73,16 @@ pub started-is : (file : List ℕ) (u : Unit) → startOf file u .refusal ≡ 0 
 unfolding startOf
 started-is file u e = rw (eq-eqb _ _ e)
 
-pub set-whole : (r : ℕ) (file f : List Register) → Whole f → Whole (registersSet r file f)
-set-whole zero file f k = k
-set-whole (suc r) file f k = length-set (registersSet r file f) r (getD file r zeroRegister) ∙ set-whole r file f k
-
 -- the registers that it set, and those that it left
 pub left-as-they-were : (r : ℕ) (file f : List Register) (i : ℕ) → r ≤ i → getD (registersSet r file f) i zeroRegister ≡ getD f i zeroRegister
 left-as-they-were zero file f i h = refl
 left-as-they-were (suc r) file f i h =
     getD-set-other (registersSet r file f) r i (getD file r zeroRegister) zeroRegister (λ e. omega arith)
     ∙ left-as-they-were r file f i (omega arith)
+
+pub set-whole : (r : ℕ) (file f : List Register) → Whole f → Whole (registersSet r file f)
+set-whole zero file f k = k
+set-whole (suc r) file f k = length-set (registersSet r file f) r (getD file r zeroRegister) ∙ set-whole r file f k
 
 pub set-from-file : (r : ℕ) (file f : List Register) → Whole f → r ≤ 32 → (i : ℕ) → i < r
     → getD (registersSet r file f) i zeroRegister ≡ getD file i zeroRegister

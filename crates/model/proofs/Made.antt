@@ -4,7 +4,6 @@ use Prim.Native.Nat.{ℕ, zero, suc, _+_, _-_, _≤_, min}
 use mathlib.Core.Path.{_≡_, refl, sym, ap, _∙_}
 use mathlib.Core.Bool.{Bool, true, false, cond, _&&_, false≢true}
 use native.Mathlib.Nat.{add-zero, add-suc}
-use native.Mathlib.Numerals.{add-one}
 use native.Mathlib.Omega.{arith}
 use borrow.Author.Tests.{le-leb, leb-true, leb-false, eqb-true, eq-eqb}
 use lib.Dec.{eqb, leb}
@@ -132,12 +131,6 @@ well-made-cycles u w c h =
 
 -- ---- cycles one after another, and a run
 
--- a cycle and then c of them are one more
-pub one-first : (c : ℕ) (u : Unit) → cyclesOf c (cycleOf u) ≡ cyclesOf (suc c) u
-unfolding cyclesOf
-one-first zero u = refl
-one-first (suc c) u = ap cycleOf (one-first c u)
-
 pub cycles-join : (c d : ℕ) (u : Unit) → cyclesOf d (cyclesOf c u) ≡ cyclesOf (c + d) u
 unfolding cyclesOf
 cycles-join c zero u = rw (add-zero c)
@@ -160,6 +153,7 @@ goes-on (suc k) u h = go (drainedOf u) refl (goes-on k (cycleOf u) (placed-cycle
         rw m
     go false q later =
         let more = leb-false (lastOf (u .n .0)) (u .cycle) (sym (drained-is u h) ∙ q) in
-        let left : leftOf (cycleOf u) ≡ lastOf (u .n .0) - (u .cycle + 1) = refl in
-        let m : min (suc k) (leftOf u) ≡ suc (min k (lastOf (u .n .0) - (u .cycle + 1))) = omega arith in
-        rw (later, left, m, one-first (min k (lastOf (u .n .0) - (u .cycle + 1))) u, add-one (min k (lastOf (u .n .0) - (u .cycle + 1))))
+        let rest : ℕ = min k (leftOf (cycleOf u)) in
+        let m : min (suc k) (leftOf u) ≡ 1 + rest = omega arith in
+        let count : rest + 1 ≡ 1 + rest = omega arith in
+        rw (later, m) (λ i. (count i, cycles-join 1 rest u i))

@@ -54,6 +54,7 @@ newestOperands wb i o = record {
   third = newest wb (takesThird (readBy i)) (i .third) (o .third);
 }
 
+-- what an instruction gives from its operands, by the table
 abbrev pub worked : Instruction → Operands → ExWb
 worked i o = EX/WB.Holds i (record { value = givesOf (i .word) (o .first) (o .second) (o .third) })
 

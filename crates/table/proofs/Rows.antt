@@ -78,14 +78,15 @@ pub gives-gated : (w : ℕ) (a b c : Register)
 unfolding givesOf
 gives-gated w a b c = gated (operationOf w) w a b c
 
+-- every place of a list of one element, and every place beyond it
+pub all-alike : {A : Type 0} (x : A) (n i : ℕ) → getD (replicate n x) i x ≡ x
+all-alike x zero i = refl
+all-alike x (suc n) zero = refl
+all-alike x (suc n) (suc i) = all-alike x n i
+
 -- no short code reads a third operand: one test over the sixteen
 no-third : (k : ℕ) → takesThird (readsOf (getD shortRows k nop)) ≡ false
-no-third k = sym (List·getD-map (λ (o : Operation). takesThird (readsOf o)) shortRows k nop) ∙ all-false 16 k
-  where
-    all-false : (n i : ℕ) → getD (replicate n false) i false ≡ false
-    all-false zero i = refl
-    all-false (suc n) zero = refl
-    all-false (suc n) (suc i) = all-false n i
+no-third k = sym (List·getD-map (λ (o : Operation). takesThird (readsOf o)) shortRows k nop) ∙ all-alike false 16 k
 
 short-third : (k w : ℕ) (a b c d : Register) → result (getD shortRows k nop) w a b c ≡ result (getD shortRows k nop) w a b d
 short-third k w a b c d = with-zero c ∙ sym (with-zero d)

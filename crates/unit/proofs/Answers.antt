@@ -1,4 +1,4 @@
--- What each call answers, from what its parts give. Carried by rewriting each test as it came out; a run goes by `goes-on` of crate `model`.
+-- What each call answers, from what its parts give. Carried by rewriting each test as it came out; a run goes by `ran` of crate `model`.
 -- Assumes nothing.
 use Prim.Native.Nat.{ℕ, _+_, _-_, _≤_, _<_, min}
 use mathlib.Core.Path.{_≡_, sym, ap, _∙_}
@@ -21,8 +21,8 @@ use Rattle.model.specs.Cycle.{cyclesOf}
 use Rattle.model.specs.Record.{drainedOf, lastOf, wellMadeOf}
 use Rattle.model.specs.Calls.{begunOf, registersSet, startOf, cycledOf, ranOf, registerOf, askedDrained}
 use Rattle.model.proofs.Control.{drained-is}
-use Rattle.model.proofs.Made.{well-made-says, goes-on}
-use Rattle.model.proofs.FromStart.{sound-read}
+use Rattle.model.proofs.Made.{well-made-says}
+use Rattle.model.proofs.FromStart.{sound-read, ran}
 use Rattle.model.proofs.Reader.{ill-made-refused, register-over-31, register-to-31}
 
 -- ---- a start
@@ -44,12 +44,6 @@ module _ (file : List ℕ) (u : Unit) {read : ReadJob} (reads : read ≡ readOf 
 -- ---- the other calls
 
 module _ (u : Unit) where
-  pub ill-made-cycle : wellMadeOf u ≡ false → _≡_ {A = Cycled} (record { refusal = STATE; unit = u }) (cycledOf u)
-  ill-made-cycle h = sym (ill-made-refused u h .0)
-
-  pub ill-made-run : (k : ℕ) → wellMadeOf u ≡ false → _≡_ {A = Ran} (record { refusal = STATE; made = 0; unit = u }) (ranOf u k)
-  ill-made-run k h = sym (ill-made-refused u h .1 k)
-
   module _ (made : wellMadeOf u ≡ true) where
     pub no-cycle-left : drainedOf u ≡ true → _≡_ {A = Cycled} (record { refusal = DRAINED; unit = u }) (cycledOf u)
     unfolding cycledOf
@@ -64,13 +58,9 @@ module _ (u : Unit) where
     unfolding cycledOf cyclesOf
     one-cycle h e = rw (made, h, e)
 
-    pub reached : u .cycle ≤ lastOf (u .n .0)
-    reached = well-made-says u made .reached
-
     pub went-on : (k : ℕ) {end m : ℕ} {v : Unit} → end ≡ lastOf (u .n .0) → m ≡ min k (end - u .cycle) → v ≡ cyclesOf m u
         → _≡_ {A = Ran} (record { refusal = 0; made = m; unit = v }) (ranOf u k)
-    unfolding ranOf
-    went-on k e f g = rw (made, goes-on k u (well-made-says u made .placed), g, f, e)
+    went-on k e f g = rw (g, f, e) (sym (ran u (well-made-says u made) k))
 
 -- ---- the calls that ask
 

@@ -1,5 +1,6 @@
 -- Carried by `too-many`, `bad-word` and `all-good`: the two tests, in their order.
 use mathlib.Core.Path.{_∙_}
+use native.Mathlib.Omega.{arith}
 use borrow.Author.Needs.{needs}
 use Rattle.plain.proofs.Laws as laws
 use Rattle.plain.proofs.execute_all.Statement.{statement}
@@ -9,7 +10,7 @@ answer-requires : tie.Need-answer-requires
 answer-requires c κs = search needs
 
 returns : tie.Need-returns
-returns c = c .answer .ensures ∙ laws.too-many _ _ (c .before .if1 .taken)
+returns c = c .answer .ensures ∙ laws.too-many _ _ (omega arith)
 
 first-bad-requires : tie.Need-first-bad-requires
 first-bad-requires c κs = search needs
@@ -20,7 +21,7 @@ answer-requires-2 c κs = search needs
 returns-2 : tie.Need-returns-2
 returns-2 c =
     c .answer2 .ensures
-    ∙ laws.bad-word _ _ (c .before .before .before .if1 .left) (c .before .before .first-bad .ensures) (c .before .if2 .taken)
+    ∙ laws.bad-word _ _ (omega arith) (c .before .before .first-bad .ensures) (omega arith)
 
 run-requires : tie.Need-run-requires
 run-requires c κs = search needs

@@ -2,6 +2,7 @@
 use mathlib.Core.Path.{sym, _∙_}
 use native.Mathlib.Omega.{arith}
 use borrow.Author.Needs.{needs}
+use Rattle.model.proofs.Reader.{ill-made-refused}
 use Rattle.unit.proofs.Answers as answers
 use Rattle.unit.proofs.cycle.Statement.{statement}
 use Rattle.unit.proofs.cycle.Tie as tie
@@ -22,7 +23,7 @@ returns-2 : tie.Need-returns-2
 returns-2 c = answers.one-cycle _ (sym (c .before .before .before .before .well-made .ensures) ∙ c .before .before .before .if1 .taken) (sym (c .before .before .is-drained .ensures) ∙ c .before .if2 .left) (c .cycles .ensures)
 
 returns-3 : tie.Need-returns-3
-returns-3 c = answers.ill-made-cycle _ (sym (c .before .well-made .ensures) ∙ c .if1 .left)
+returns-3 c = sym (ill-made-refused _ (sym (c .before .well-made .ensures) ∙ c .if1 .left) .0)
 
 pub cycle-spec : {M : Type 1} → statement M
 cycle-spec =

@@ -1,4 +1,5 @@
 -- Carried by the laws of `Answers`: a record that is not well made, a number above 31, and a register.
+use native.Mathlib.Omega.{arith}
 use borrow.Author.Needs.{needs}
 use Rattle.unit.proofs.Answers as answers
 use Rattle.unit.proofs.register_of.Statement.{statement}
@@ -8,7 +9,7 @@ well-made-requires : tie.Need-well-made-requires
 well-made-requires c κs = search needs
 
 returns : tie.Need-returns
-returns c = search (answers.no-pointer, needs)
+returns c = answers.no-pointer _ (c .before .before .well-made .ensures) _ (c .before .if1 .taken) (omega arith)
 
 mul-t7 : tie.Need-mul-t7
 mul-t7 c = search needs

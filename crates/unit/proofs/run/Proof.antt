@@ -2,6 +2,8 @@
 use mathlib.Core.Path.{sym, _∙_}
 use native.Mathlib.Omega.{arith}
 use borrow.Author.Needs.{needs}
+use Rattle.model.proofs.Made.{well-made-says}
+use Rattle.model.proofs.Reader.{ill-made-refused}
 use Rattle.unit.proofs.Answers as answers
 use Rattle.unit.proofs.run.Statement.{statement}
 use Rattle.unit.proofs.run.Tie as tie
@@ -13,19 +15,19 @@ last-requires : tie.Need-last-requires
 last-requires c κs = search needs
 
 sub-lesser : tie.Need-sub-lesser
-sub-lesser c = let made = sym (c .before .before .before .before .well-made .ensures) ∙ c .before .before .before .if1 .taken in omega (arith, answers.reached _ made, c .before .last .ensures)
+sub-lesser c = let made = sym (c .before .before .before .before .well-made .ensures) ∙ c .before .before .before .if1 .taken in omega (arith, well-made-says _ made .reached, c .before .last .ensures)
 
 lesser-requires : tie.Need-lesser-requires
 lesser-requires c κs = search needs
 
 cycles-requires : tie.Need-cycles-requires
-cycles-requires c κs = let made = sym (c .before .before .before .before .before .well-made .ensures) ∙ c .before .before .before .before .if1 .taken in (made, omega (arith, answers.reached _ made, c .before .before .last .ensures, c .lesser .ensures))
+cycles-requires c κs = let made = sym (c .before .before .before .before .before .well-made .ensures) ∙ c .before .before .before .before .if1 .taken in (made, omega (arith, well-made-says _ made .reached, c .before .before .last .ensures, c .lesser .ensures))
 
 returns : tie.Need-returns
 returns c = answers.went-on _ (sym (c .before .before .before .before .before .before .well-made .ensures) ∙ c .before .before .before .before .before .if1 .taken) _ (c .before .before .before .last .ensures) (c .before .lesser .ensures) (c .cycles .ensures)
 
 returns-2 : tie.Need-returns-2
-returns-2 c = answers.ill-made-run _ _ (sym (c .before .well-made .ensures) ∙ c .if1 .left)
+returns-2 c = sym (ill-made-refused _ (sym (c .before .well-made .ensures) ∙ c .if1 .left) .1 _)
 
 pub run-spec : {M : Type 1} → statement M
 run-spec =

@@ -23,7 +23,7 @@ refused-requires-3 : tie.Need-refused-requires-3
 refused-requires-3 c κs = search needs
 
 returns-3 : tie.Need-returns-3
-returns-3 c = rw (c .refused3 .ensures) (tests.part-of-a-register _ _ _ _ (omega arith) (omega arith) (c .before .if3 .taken))
+returns-3 c = rw (c .refused3 .ensures) (tests.part-of-a-register _ _ _ _ (omega arith) (omega arith) (λ e. omega arith))
 
 first-bad-requires : tie.Need-first-bad-requires
 first-bad-requires c κs = search needs

@@ -27,7 +27,7 @@ shared-slice-read-if1 c = search needs
 returns : tie.Need-returns Inv-loop μ-loop
 returns c =
     let words = c .before .before .before .before .args .words .now in
-    omega (arith, places.bad-here words (c .before .before .before .loop .i) (c .before .before .loop-test .taken) (c .if1 .taken))
+    omega (arith, places.bad-here words (c .before .before .before .loop .i) (c .before .before .loop-test .taken) (omega arith))
 
 add-i : tie.Need-add-i Inv-loop μ-loop
 add-i c = search needs
