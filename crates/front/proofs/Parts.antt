@@ -2,13 +2,14 @@
 -- Assumes nothing.
 use Prim.Native.Nat.{ℕ, suc, _+_, _-_, _≤_, _<_}
 use mathlib.Core.Path.{_≡_, sym, ap, _∙_}
-use mathlib.Core.List.{List, [], _++_, append-assoc, append-nil}
+use mathlib.Core.List.{List, [], _∷_, _++_, append-assoc, append-nil}
 use native.Mathlib.Omega.{arith}
+use native.Mathlib.Nat.{not-suc-le-zero}
 use native.Mathlib.Numerals.{add-one}
 use borrow.Rule.Slice.PartMut.{midOf, postOf, putMid}
 use lib.ListN.{length, getD, take, drop, set, length-append, length-drop, drop-of-length-le}
 use lib.Seq.{take-at, drop-at, drop-drop, take-all, take-suc, drop-cons, set-at, append-snoc, length-take-le}
-use Rattle.front.specs.Front.{atFront}
+use Rattle.front.specs.Front.{atFront, fromStart}
 
 module _ {A : Type 0} where
   -- the part from a on to the end, and nothing behind it
@@ -18,16 +19,30 @@ module _ {A : Type 0} where
   rest-post : (a : ℕ) (xs : List A) → postOf a (length xs - a) xs ≡ []
   rest-post a xs = drop-of-length-le (drop a xs) {i = length xs - a} (omega (arith, length-drop a xs))
 
-  -- q put at the front of the part behind p stands behind p
-  pub then-front : (a : ℕ) (p q old xs ys : List A) → length p ≡ a → xs ≡ atFront p old → ys ≡ atFront q (midOf a (length xs - a) xs)
-      → putMid a (length xs - a) xs ys ≡ atFront (p ++ q) old
-  then-front a p q old xs ys n s e =
+  -- what is put at the front of the part from a on stands in the whole from a on
+  pub put-from : (a : ℕ) (q xs ys : List A) → ys ≡ atFront q (midOf a (length xs - a) xs) → putMid a (length xs - a) xs ys ≡ fromStart a q xs
+  put-from a q xs ys e =
+      let part : ys ≡ atFront q (drop a xs) = e ∙ ap (atFront q) (rest-mid a xs) in
+      rw (rest-post a xs, append-nil ys, part)
+
+  -- q put from where p ends stands behind p
+  pub then-from : (a : ℕ) (p q old xs : List A) → length p ≡ a → xs ≡ atFront p old → fromStart a q xs ≡ atFront (p ++ q) old
+  then-from a p q old xs n s =
       let behind : drop a xs ≡ drop a old = ap (drop a) s ∙ drop-at p (drop (length p) old) a n ∙ ap (λ (k : ℕ). drop k old) n in
       let front : take a xs ≡ p = ap (take a) s ∙ take-at p (drop (length p) old) a n in
       let size : length (p ++ q) ≡ a + length q = omega (arith, length-append p q) in
-      let part : ys ≡ q ++ drop (a + length q) old
-      = e ∙ ap (λ (l : List A). q ++ drop (length q) l) (rest-mid a xs ∙ behind) ∙ ap (λ (l : List A). q ++ l) (drop-drop (length q) a old) in
-      rw (front, rest-post a xs, append-nil ys, part, size) (sym (append-assoc p q (drop (a + length q) old)))
+      rw (front, behind, drop-drop (length q) a old, size) (sym (append-assoc p q (drop (a + length q) old)))
+
+  -- q put at the front of the part behind p stands behind p
+  pub then-front : (a : ℕ) (p q old xs ys : List A) → length p ≡ a → xs ≡ atFront p old → ys ≡ atFront q (midOf a (length xs - a) xs)
+      → putMid a (length xs - a) xs ys ≡ atFront (p ++ q) old
+  then-front a p q old xs ys n s e = put-from a q xs ys e ∙ then-from a p q old xs n s
+
+  -- q put from the second place on, and then an element at the first
+  pub behind-one : (b : A) (q xs ys : List A) → 1 ≤ length xs → ys ≡ atFront q (midOf 1 (length xs - 1) xs)
+      → set (putMid 1 (length xs - 1) xs ys) 0 b ≡ atFront (b ∷ q) xs
+  behind-one b q [] ys h e = absurd (not-suc-le-zero h)
+  behind-one b q (x ∷ xs) ys h e = ap (λ (l : List A). set l 0 b) (put-from 1 q (x ∷ xs) ys e)
 
   -- the next element of s stored behind those before it
   pub next-stored : (s old out : List A) (i : ℕ) (z : A) → length s ≤ length old → i < length s → out ≡ atFront (take i s) old

@@ -64,7 +64,7 @@ next-min n c =
     (λ h. let m : min c n ≡ c = omega arith in rw (m, lt-ltb c n h) (omega arith))
     (λ h. let m : min c n ≡ n = omega arith in rw (m, le-ltb n n (omega arith)) (omega arith))
 
-held-later : (p : List ℕ) (n k c : ℕ) → heldOf p n k c ≡ heldOf p n (suc k) (c + 1)
+pub held-later : (p : List ℕ) (n k c : ℕ) → heldOf p n k c ≡ heldOf p n (suc k) (c + 1)
 held-later p n k c =
     let q : suc c - suc k ≡ c - k = omega arith in
     rw (add-one, leb·suc-suc k c, q)

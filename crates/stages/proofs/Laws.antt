@@ -9,7 +9,6 @@ use borrow.Author.Tests.{ltb-true, eq-eqb, ne-eqb}
 use lib.Dec.{ltb}
 use lib.ListN.{getD, set}
 use Rattle.register.specs.declared.Register.{Register}
-use Rattle.register.specs.Layout.{zeroRegister}
 use Rattle.table.specs.declared.Count.{Count}
 use Rattle.table.specs.declared.Pointer.{Pointer}
 use Rattle.table.specs.declared.Target.{Target}
@@ -25,7 +24,7 @@ use Rattle.model.specs.declared.ExWb.{ExWb}
 use Rattle.model.specs.declared.ExWb.the-variants as EX/WB
 use Rattle.model.specs.Cycle.{afterWB, isTarget, newest, readBy, afterEX, afterID, afterIF}
 use Rattle.model.specs.Record.{sameTarget, sameInstruction}
-use Rattle.stages.specs.Stages.{writeTo, writeOf, newestBy, executedBy, sourcesOf, decodedWith, deliveredOf}
+use Rattle.stages.specs.Stages.{writeTo, writeOf, newestBy, executedBy, sourcesOf, readAt, decodedWith, deliveredOf}
 
 -- ---- WB
 
@@ -64,12 +63,7 @@ execute wb (ID/EX.Holds i o) =
 
 -- ---- ID
 
-pub decode : (latch : IfId) (f : List Register)
-    → decodedWith latch
-    (getD f (sourcesOf latch .first .0) zeroRegister)
-    (getD f (sourcesOf latch .second .0) zeroRegister)
-    (getD f (sourcesOf latch .third .0) zeroRegister)
-    ≡ afterID latch f
+pub decode : (latch : IfId) (f : List Register) → decodedWith latch (readAt (sourcesOf latch) f) ≡ afterID latch f
 decode IF/ID.Empty f = refl
 decode (IF/ID.Holds i) f = refl
 

@@ -1,9 +1,11 @@
 -- The stages as functions on latches and registers, so that no register file and no program is handed on once a cycle. That together they are "One cycle"
 -- is in proofs/Laws.antt.
 -- Assumes nothing.
-use Prim.Native.Nat.{ℕ}
+use Prim.Native.Nat.{ℕ, _+_}
 use mathlib.Core.Bool.{Bool, true, false, cond, _&&_}
+use mathlib.Core.List.{List}
 use lib.Dec.{eqb, ltb}
+use lib.ListN.{getD}
 use Rattle.register.specs.declared.Register.{Register}
 use Rattle.register.specs.Layout.{zeroRegister}
 use Rattle.table.specs.declared.Count.{Count}
@@ -19,9 +21,11 @@ use Rattle.model.specs.declared.IdEx.{IdEx}
 use Rattle.model.specs.declared.IdEx.the-variants as ID/EX
 use Rattle.model.specs.declared.ExWb.{ExWb}
 use Rattle.model.specs.declared.ExWb.the-variants as EX/WB
+use Rattle.model.specs.declared.Unit.{Unit}
 use Rattle.model.specs.Cycle.{instructionOf, readBy, worked, countAfter}
 use Rattle.stages.specs.declared.Write.{Write}
 use Rattle.stages.specs.declared.Sources.{Sources}
+use Rattle.stages.specs.declared.Carried.{Carried}
 
 -- what WB writes in a cycle, as one value: whether it writes, where and what
 abbrev pub writeTo : Target → Register → Write
@@ -47,14 +51,21 @@ abbrev pub executedBy : Write → IdEx → ExWb
 executedBy w ID/EX.Empty = EX/WB.Empty
 executedBy w (ID/EX.Holds i o) = worked i (newestOperandsBy w i o)
 
--- ID: where it reads, and what it latches
+-- ID: where it reads, what it reads there, and what it latches
 abbrev pub sourcesOf : IfId → Sources
 sourcesOf IF/ID.Empty = record { first = record { 0 = 0 }; second = record { 0 = 0 }; third = record { 0 = 0 } }
 sourcesOf (IF/ID.Holds i) = record { first = i .first; second = i .second; third = i .third }
 
-abbrev pub decodedWith : IfId → Register → Register → Register → IdEx
-decodedWith IF/ID.Empty a b c = ID/EX.Empty
-decodedWith (IF/ID.Holds i) a b c = ID/EX.Holds i (record { first = a; second = b; third = c })
+abbrev pub readAt : Sources → List Register → Operands
+readAt s f = record {
+  first = getD f (s .first .0) zeroRegister;
+  second = getD f (s .second .0) zeroRegister;
+  third = getD f (s .third .0) zeroRegister;
+}
+
+abbrev pub decodedWith : IfId → Operands → IdEx
+decodedWith IF/ID.Empty o = ID/EX.Empty
+decodedWith (IF/ID.Holds i) o = ID/EX.Holds i o
 
 -- IF, with the word at the count
 abbrev pub deliveredOf : Count → Count → ℕ → IfId
@@ -62,3 +73,29 @@ deliveredOf n k w = cond (ltb (k .0) (n .0)) (IF/ID.Holds (instructionOf w)) IF/
 
 abbrev pub nextCount : Count → Count → Count
 nextCount n k = record { 0 = countAfter (n .0) (k .0) }
+
+-- what a cycle carries to the next one beside the registers: the count and the latches
+abbrev pub carriedOf : Unit → Carried
+carriedOf u = record { count = u .count; fetched = u .fetched; decoded = u .decoded; executed = u .executed }
+
+-- a unit so many cycles on, from its registers and what is carried
+abbrev pub unitWith : Unit → ℕ → List Register → Carried → Unit
+unitWith u c f l = record {
+  program = u .program;
+  n = u .n;
+  count = l .count;
+  cycle = u .cycle + c;
+  registers = f;
+  fetched = l .fetched;
+  decoded = l .decoded;
+  executed = l .executed;
+}
+
+-- EX, ID and IF, with what WB writes, what ID reads and the word at the count
+abbrev pub advancedOf : Count → Carried → Write → Operands → ℕ → Carried
+advancedOf n l w o word = record {
+  count = nextCount n (l .count);
+  fetched = deliveredOf n (l .count) word;
+  decoded = decodedWith (l .fetched) o;
+  executed = executedBy w (l .decoded);
+}

@@ -3,7 +3,7 @@
 ghost use mathlib.Core.Path.{_≡_};
 ghost use Rattle.table.specs.Operation.{takesFirst, takesSecond, takesThird};
 ghost use Rattle.model.specs.Cycle.{instructionOf, worked};
-ghost use Rattle.stages.specs.Stages.{writeTo, writeOf, newestBy, newestOperandsBy, executedBy, sourcesOf, decodedWith, deliveredOf, nextCount};
+ghost use Rattle.stages.specs.Stages.{writeTo, writeOf, newestBy, newestOperandsBy, executedBy, sourcesOf, decodedWith, deliveredOf, nextCount, carriedOf, advancedOf};
 
 pub mod latches;
 
@@ -13,6 +13,7 @@ use model::IfId;
 use model::Instruction;
 use model::Operands;
 use model::Outcome;
+use model::Unit;
 use register::Register;
 use table::Count;
 use table::Pointer;
@@ -28,6 +29,14 @@ pub struct Write {
     pub writes: bool,
     pub at: Pointer,
     pub value: Register,
+}
+
+// What a cycle carries to the next one beside the registers.
+pub struct Carried {
+    pub count: Count,
+    pub fetched: IfId,
+    pub decoded: IdEx,
+    pub executed: ExWb,
 }
 
 // The registers that ID reads in a cycle.
@@ -90,7 +99,7 @@ fn takes_first(reads: Reads) -> bool
     }
 }
 
-fn takes_second(reads: Reads) -> bool
+pub fn takes_second(reads: Reads) -> bool
     ensures { λ r. ⌜ r ≡ takesSecond reads ⌝ }
 {
     match reads {
@@ -102,7 +111,7 @@ fn takes_second(reads: Reads) -> bool
     }
 }
 
-fn takes_third(reads: Reads) -> bool
+pub fn takes_third(reads: Reads) -> bool
     ensures { λ r. ⌜ r ≡ takesThird reads ⌝ }
 {
     match reads {
@@ -145,7 +154,7 @@ fn work(i: Instruction, o: Operands) -> ExWb
     ExWb::Holds(i, Outcome { value: value })
 }
 
-pub fn executed(write: Write, latch: IdEx) -> ExWb
+fn executed(write: Write, latch: IdEx) -> ExWb
     ensures { λ r. ⌜ r ≡ executedBy write latch ⌝ }
 {
     match latch {
@@ -176,23 +185,16 @@ pub fn read_from(latch: IfId) -> Sources
     }
 }
 
-pub fn decoded(latch: IfId, first: Register, second: Register, third: Register) -> IdEx
-    ensures { λ r. ⌜ r ≡ decodedWith latch first second third ⌝ }
+fn decoded(latch: IfId, read: Operands) -> IdEx
+    ensures { λ r. ⌜ r ≡ decodedWith latch read ⌝ }
 {
     match latch {
         IfId::Empty => IdEx::Empty,
-        IfId::Holds(i) => IdEx::Holds(
-            i,
-            Operands {
-                first: first,
-                second: second,
-                third: third,
-            },
-        ),
+        IfId::Holds(i) => IdEx::Holds(i, read),
     }
 }
 
-pub fn delivered(n: Count, count: Count, word: u32) -> IfId
+fn delivered(n: Count, count: Count, word: u32) -> IfId
     ensures { λ r. ⌜ r ≡ deliveredOf n count word ⌝ }
 {
     if count.0 < n.0 {
@@ -201,11 +203,41 @@ pub fn delivered(n: Count, count: Count, word: u32) -> IfId
     IfId::Empty
 }
 
-pub fn next_count(n: Count, count: Count) -> Count
+fn next_count(n: Count, count: Count) -> Count
     ensures { λ r. ⌜ r ≡ nextCount n count ⌝ }
 {
     if count.0 < n.0 {
         return Count(count.0 + 1);
     }
     count
+}
+
+pub fn carried_in(u: Unit) -> Carried
+    ensures { λ r. ⌜ r ≡ carriedOf u ⌝ }
+{
+    let count = u.count;
+    let fetched = u.fetched;
+    let decoded = u.decoded;
+    let executed = u.executed;
+    Carried {
+        count,
+        fetched,
+        decoded,
+        executed,
+    }
+}
+
+// EX, ID and IF, with what WB writes, what ID reads and the word at the count.
+pub fn advanced(n: Count, carried: Carried, write: Write, read: Operands, word: u32) -> Carried
+    ensures { λ r. ⌜ r ≡ advancedOf n carried write read word ⌝ }
+{
+    let count = carried.count;
+    let fetched = carried.fetched;
+    let decoding = carried.decoded;
+    Carried {
+        count: next_count(n, count),
+        fetched: delivered(n, count, word),
+        decoded: decoded(fetched, read),
+        executed: executed(write, decoding),
+    }
 }

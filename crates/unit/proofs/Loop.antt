@@ -5,56 +5,59 @@ use Prim.Native.Nat.{ℕ, _+_, _-_, _%_, _≤_, _<_}
 use mathlib.Core.Path.{_≡_, refl, sym, ap, subst, _∙_}
 use mathlib.Core.Bool.{Bool, true, false, cond}
 use mathlib.Core.List.{List}
+use native.Mathlib.Nat.{add-assoc, add-zero}
 use native.Mathlib.Numerals.{add-one}
 use native.Mathlib.Omega.{arith}
 use lib.Dec.{eqb, ltb, leb}
 use lib.ListN.{getD, set}
 use Rattle.register.specs.declared.Register.{Register}
 use Rattle.register.specs.Layout.{zeroRegister}
-use Rattle.table.specs.declared.Count.{Count}
 use Rattle.table.specs.declared.Target.{Target}
 use Rattle.table.specs.declared.Target.the-variants.{None, To}
 use Rattle.table.specs.Fields.{isLi, rdOf, rs1Of, firstOf}
 use Rattle.table.specs.Operation.{isNop, targetOf}
 use Rattle.model.specs.declared.IfId.{IfId}
 use Rattle.model.specs.declared.IfId.the-variants as IF/ID
-use Rattle.model.specs.declared.IdEx.{IdEx}
 use Rattle.model.specs.declared.ExWb.{ExWb}
 use Rattle.model.specs.declared.ExWb.the-variants as EX/WB
 use Rattle.model.specs.declared.Unit.{Unit}
-use Rattle.model.specs.Cycle.{instructionOf, afterWB, afterEX, afterID, afterIF, cycleOf, cyclesOf}
+use Rattle.model.specs.Cycle.{instructionOf, afterWB, afterID, afterIF, cycleOf, cyclesOf}
 use Rattle.model.specs.Record.{inExecuted, lastOf, heldOf, wellMadeOf}
 use Rattle.model.specs.Calls.{registersSet}
 use Rattle.model.proofs.Control.{Placed, placed-cycles}
 use Rattle.model.proofs.Made.{well-made-says}
+use Rattle.stages.specs.declared.Carried.{Carried}
 use Rattle.stages.specs.declared.Write.{Write}
 use Rattle.stages.specs.declared.Sources.{Sources}
-use Rattle.stages.specs.Stages.{writeTo, writeOf, executedBy, sourcesOf, decodedWith, deliveredOf, nextCount}
+use Rattle.stages.specs.Stages.{writeTo, writeOf, sourcesOf, readAt, decodedWith, carriedOf, unitWith, advancedOf}
 use Rattle.stages.proofs.Laws.{write-back, execute, decode, deliver}
 
--- the unit that the locals make
-abbrev pub unitOf : List ℕ → Count → Count → ℕ → List Register → IfId → IdEx → ExWb → Unit
-unitOf p n k c f x y z = record { program = p; n = n; count = k; cycle = c; registers = f; fetched = x; decoded = y; executed = z }
-
 -- a turn: what the stages are called for, one after another
-pub turn : (u : Unit) {g : List Register} {l : Count} {x : IfId} {y : IdEx} {z : ExWb} {w : Write} {v : Sources}
+pub turn : (u : Unit) {g : List Register} {l : Carried} {w : Write} {v : Sources}
     → u .n .0 ≤ 64
     → w ≡ writeOf (u .executed) → g ≡ cond (w .writes) (set (u .registers) (w .at .0) (w .value)) (u .registers)
-    → v ≡ sourcesOf (u .fetched) → z ≡ executedBy w (u .decoded)
-    → y ≡ decodedWith (u .fetched) (getD g (v .first .0) zeroRegister) (getD g (v .second .0) zeroRegister) (getD g (v .third .0) zeroRegister)
-    → x ≡ deliveredOf (u .n) (u .count) (getD (u .program) (u .count .0 % 64) 0) → l ≡ nextCount (u .n) (u .count)
-    → unitOf (u .program) (u .n) l (u .cycle + 1) g x y z ≡ cycleOf u
+    → v ≡ sourcesOf (u .fetched)
+    → l ≡ advancedOf (u .n) (carriedOf u) w (readAt v g) (getD (u .program) (u .count .0 % 64) 0)
+    → unitWith u 1 g l ≡ cycleOf u
 unfolding cycleOf
-turn u {g = g} {y = y} {z = z} few ew eg ev ez ey ex el =
+turn u {g = g} few ew eg ev el =
     let stored : g ≡ afterWB (u .executed) (u .registers) = eg ∙ rw ew (write-back (u .executed) (u .registers)) in
-    let read : y ≡ afterID (u .fetched) g = ey ∙ rw ev (decode (u .fetched) g) in
-    let worked : z ≡ afterEX (u .executed) (u .decoded) = ez ∙ rw ew (execute (u .executed) (u .decoded)) in
-    let fetched = ex ∙ deliver (u .program) (u .n) (u .count) few in
-    rw (read, stored, worked, fetched, el)
+    let read : decodedWith (u .fetched) (readAt (sourcesOf (u .fetched)) g) ≡ afterID (u .fetched) g = decode (u .fetched) g in
+    let worked = execute (u .executed) (u .decoded) in
+    let fetched = deliver (u .program) (u .n) (u .count) few in
+    rw (el, ev, ew, read, stored, worked, fetched)
 
-pub more : (i : ℕ) (u : Unit) {v w : Unit} → v ≡ cyclesOf i u → w ≡ cycleOf v → w ≡ cyclesOf (i + 1) u
+-- before the first turn
+pub none-yet : (u : Unit) {l : Carried} → l ≡ carriedOf u → unitWith u 0 (u .registers) l ≡ cyclesOf 0 u
 unfolding cyclesOf
-more i u h e = e ∙ ap cycleOf h ∙ rw (add-one i)
+none-yet u e = rw (e, add-zero (u .cycle))
+
+-- the unit after so many cycles, and one more
+pub more : (i : ℕ) (u : Unit) {f g : List Register} {k l : Carried} → unitWith u i f k ≡ cyclesOf i u
+    → unitWith (unitWith u i f k) 1 g l ≡ cycleOf (unitWith u i f k) → unitWith u (i + 1) g l ≡ cyclesOf (i + 1) u
+unfolding cyclesOf
+more i u {g = g} {l = l} h e =
+    rw (sym (add-assoc (u .cycle) i 1)) e ∙ ap cycleOf h ∙ rw (add-one i)
 
 -- a cycle number stays small
 pub last-small : (u : Unit) → wellMadeOf u ≡ true → lastOf (u .n .0) ≤ 67
@@ -114,17 +117,20 @@ at-is (EX/WB.Holds i o) = go (i .target)
     go None = refl
     go (To p) = refl
 
-module _ (u : Unit) (made : wellMadeOf u ≡ true) (c : ℕ) {v : Unit} (e : v ≡ cyclesOf c u) where
-  placed : Placed v
+-- where a cycle writes and reads
+module _ (u : Unit) (made : wellMadeOf u ≡ true) (c : ℕ) {f : List Register} {l : Carried} (e : unitWith u c f l ≡ cyclesOf c u) where
+  placed : Placed (unitWith u c f l)
   placed = subst Placed (sym e) (placed-cycles c u (well-made-says u made .placed))
 
-  pub small-sources : Small (v .fetched)
-  small-sources = subst Small (sym (placed .in-IF/ID)) (small-held (v .program) (v .n .0) 1 (v .cycle))
+  pub read-in-range : {v : Sources} → v ≡ sourcesOf (l .fetched) → (v .first .0 < 32) × (v .second .0 < 32) × (v .third .0 < 32)
+  read-in-range h =
+      let s = subst Small (sym (placed .in-IF/ID)) (small-held (u .program) (u .n .0) 1 (u .cycle + c)) in
+      rw h (s .first, s .second, s .third)
 
-  pub small-target : writeOf (v .executed) .at .0 < 32
-  small-target =
-      let s = subst Small (sym (placed .in-EX/WB)) (small-held (v .program) (v .n .0) 3 (v .cycle)) in
-      omega (arith, at-is (v .executed), s .target)
+  pub write-in-range : {w : Write} → w ≡ writeOf (l .executed) → w .at .0 < 32
+  write-in-range h =
+      let s = subst Small (sym (placed .in-EX/WB)) (small-held (u .program) (u .n .0) 3 (u .cycle + c)) in
+      rw (h, at-is (l .executed)) (s .target)
 
 -- ---- the loop that sets registers
 

@@ -1,0 +1,78 @@
+// Digits and hyphens at the front of a buffer.
+
+ghost use Prim.Native.Nat.{_/_, _%_, _≤_};
+ghost use mathlib.Core.Path.{_≡_};
+ghost use lib.ListN.{length};
+ghost use Rattle.front.specs.Front.{atFront};
+ghost use Rattle.row.specs.Text.{digit, twoDigits, hexDigits, hyphens};
+
+const DIGITS: [u8; 16] = [
+    b'0',
+    b'1',
+    b'2',
+    b'3',
+    b'4',
+    b'5',
+    b'6',
+    b'7',
+    b'8',
+    b'9',
+    b'A',
+    b'B',
+    b'C',
+    b'D',
+    b'E',
+    b'F',
+];
+
+pub fn tens(n: u32) -> u8
+    ensures { λ r. ⌜ r ≡ digit (n / 10 % 10) ⌝ }
+{
+    DIGITS[(n / 10 % 10) as usize]
+}
+
+pub fn units(n: u32) -> u8
+    ensures { λ r. ⌜ r ≡ digit (n % 10) ⌝ }
+{
+    DIGITS[(n % 10) as usize]
+}
+
+pub(crate) fn put_two(out: &mut [u8], n: u32)
+    requires { ⌜ 2 ≤ length (now out) ⌝ }
+    ensures { λ _. ⌜ now (out .exit) ≡ atFront (twoDigits n) (now (out .entry)) ⌝ }
+{
+    out[0] = tens(n);
+    out[1] = units(n);
+}
+
+pub(crate) fn put_seven(out: &mut [u8], w: u32)
+    requires { ⌜ 7 ≤ length (now out) ⌝ }
+    ensures { λ _. ⌜ now (out .exit) ≡ atFront (hexDigits 7 w) (now (out .entry)) ⌝ }
+{
+    out[0] = DIGITS[(w / 0x100_0000 % 16) as usize];
+    out[1] = DIGITS[(w / 0x10_0000 % 16) as usize];
+    out[2] = DIGITS[(w / 0x1_0000 % 16) as usize];
+    out[3] = DIGITS[(w / 0x1000 % 16) as usize];
+    out[4] = DIGITS[(w / 0x100 % 16) as usize];
+    out[5] = DIGITS[(w / 0x10 % 16) as usize];
+    out[6] = DIGITS[(w % 16) as usize];
+}
+
+pub(crate) fn put_eight(out: &mut [u8], w: u32)
+    requires { ⌜ 8 ≤ length (now out) ⌝ }
+    ensures { λ _. ⌜ now (out .exit) ≡ atFront (hexDigits 8 w) (now (out .entry)) ⌝ }
+{
+    put_seven(&mut out[1..], w);
+    out[0] = DIGITS[(w / 0x1000_0000 % 16) as usize];
+}
+
+pub(crate) fn put_hyphens(out: &mut [u8], k: usize)
+    requires { ⌜ k ≤ length (now out) ⌝ }
+    ensures { λ _. ⌜ now (out .exit) ≡ atFront (hyphens k) (now (out .entry)) ⌝ }
+{
+    let mut i = 0;
+    while i < k {
+        out[i] = b'-';
+        i += 1;
+    }
+}

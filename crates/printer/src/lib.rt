@@ -1,0 +1,48 @@
+// The writer of trace rows: each field goes into the part of the lent buffer that is lent on to its writer.
+
+ghost use Prim.Native.Nat.{_≤_};
+ghost use mathlib.Core.Path.{_≡_};
+ghost use lib.ListN.{length};
+ghost use Rattle.front.specs.Front.{atFront};
+ghost use Rattle.row.specs.Text.{rowSize, rowText, rowAt};
+
+pub mod digits;
+mod fields;
+
+use crate::digits::put_two;
+use crate::fields::put_end;
+use crate::fields::put_stages;
+use row::Row;
+use table::refusal;
+
+// The bytes of a row.
+pub const ROW_SIZE: usize = 75;
+
+fn put_row(out: &mut [u8], row: Row)
+    requires { ⌜ rowSize ≤ length (now out) ⌝ }
+    ensures { λ _. ⌜ now (out .exit) ≡ atFront (rowText row) (now (out .entry)) ⌝ }
+{
+    let fetch = row.fetch;
+    let decode = row.decode;
+    let execute = row.execute;
+    let write = row.write;
+    let flags = row.flags;
+    let change = row.change;
+    put_two(out, row.cycle);
+    put_stages(&mut out[2..], fetch, decode, execute, write);
+    put_end(&mut out[34..], flags, change);
+}
+
+// Any start: the room behind it is tested without adding to it.
+pub fn write_row(buffer: &mut [u8], start: usize, row: Row) -> u32
+    ensures { λ r. ⌜ (r, now (buffer .exit)) ≡ rowAt row start (now (buffer .entry)) ⌝ }
+{
+    if buffer.len() < ROW_SIZE {
+        return refusal::ROOM;
+    }
+    if buffer.len() - ROW_SIZE < start {
+        return refusal::ROOM;
+    }
+    put_row(&mut buffer[start..], row);
+    0
+}

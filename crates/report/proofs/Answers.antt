@@ -1,0 +1,50 @@
+-- What is answered for a text, with room for it and without; and which text it is, by how the start came out.
+-- Assumes nothing.
+use Prim.Native.Nat.{ℕ, _≤_, _<_}
+use mathlib.Core.Path.{_≡_, sym, ap, _∙_}
+use mathlib.Core.Bool.{true}
+use mathlib.Core.List.{List}
+use borrow.Author.Tests.{lt-ltb, le-ltb, eq-eqb, ne-eqb}
+use lib.ListN.{length}
+use Rattle.front.specs.Front.{atFront}
+use Rattle.table.specs.Refusal.{ROOM}
+use Rattle.job.specs.Layout.{instructionsAt}
+use Rattle.job.specs.Read.{readOf}
+use Rattle.model.specs.declared.Unit.{Unit}
+use Rattle.model.specs.declared.Started.{Started}
+use Rattle.model.specs.Record.{wellMadeOf}
+use Rattle.model.specs.Calls.{freshOf, startOf}
+use Rattle.model.proofs.Made.{well-made-test}
+use Rattle.model.proofs.FromStart.{sound-read, started-is, well-made-started}
+use Rattle.report.specs.declared.Reported.{Reported}
+use Rattle.report.specs.Report.{refusedText, traceText, reportText, putOf}
+
+module _ (text buffer : List ℕ) where
+  pub no-room-for : {r : Reported} → r ≡ record { refusal = ROOM; size = 0 } → length buffer < length text → (r, buffer) ≡ putOf text buffer
+  unfolding putOf
+  no-room-for e h = rw (e, lt-ltb (length buffer) (length text) h)
+
+  pub text-put : {new : List ℕ} {size : ℕ} → length text ≤ length buffer → new ≡ atFront text buffer → size ≡ length text
+      → _≡_ {A = Reported × List ℕ} (record { refusal = 0; size = size }, new) (putOf text buffer)
+  unfolding putOf
+  text-put h e g = rw (e, g, le-ltb (length buffer) (length text) h)
+
+module _ (file : List ℕ) {u : Unit} {s : Started} (fresh : u ≡ freshOf) (start : s ≡ startOf file u) where
+  started : startOf file freshOf ≡ s
+  started = sym (start ∙ ap (startOf file) fresh)
+
+  pub text-refused : (s .refusal ≡ 0 → ⊥) → refusedText (s .refusal) ≡ reportText file
+  unfolding reportText
+  text-refused h = rw (started, ne-eqb (s .refusal) 0 h)
+
+  module _ (accepted : s .refusal ≡ 0) where
+    pub text-accepted : traceText (s .unit) ≡ reportText file
+    unfolding reportText
+    text-accepted = rw (started, eq-eqb (s .refusal) 0 accepted)
+
+    pub started-made : wellMadeOf (s .unit) ≡ true
+    unfolding startOf
+    started-made =
+        let e : startOf file freshOf .refusal ≡ 0 = ap (λ (x : Started). x .refusal) started ∙ accepted in
+        let unit = started-is file freshOf e in
+        rw (← started, unit) (well-made-test _ (well-made-started (readOf instructionsAt file .job) freshOf (sound-read file e)))

@@ -1,0 +1,5 @@
+pub mod Text
+pub mod Loop
+pub mod Answers
+pub mod Reader
+pub mod Unique

@@ -1,0 +1,38 @@
+-- A turn of the loop over rows: the row that it shows is that of the unit after the cycles made so far, and stands behind the rows before it.
+-- Assumes nothing.
+use Prim.Native.Nat.{ℕ, _+_, _*_, _%_, _≤_}
+use mathlib.Core.Path.{_≡_, sym, ap, _∙_}
+use mathlib.Core.List.{List}
+use native.Mathlib.Nat.{add-assoc}
+use native.Mathlib.Numerals.{add-one}
+use lib.ListN.{length, getD}
+use Rattle.front.specs.Front.{atFront, fromStart}
+use Rattle.front.proofs.Parts.{then-from}
+use Rattle.register.specs.declared.Register.{Register}
+use Rattle.row.specs.declared.Row.{Row}
+use Rattle.row.specs.Text.{rowText, rowSize, rowAt}
+use Rattle.row.proofs.Reader.{row-fits}
+use Rattle.model.specs.declared.IfId.{IfId}
+use Rattle.model.specs.declared.Unit.{Unit}
+use Rattle.model.specs.Cycle.{cyclesOf}
+use Rattle.stages.specs.declared.Carried.{Carried}
+use Rattle.stages.specs.Stages.{unitWith, deliveredOf}
+use Rattle.stages.proofs.Laws.{deliver}
+use Rattle.shown.specs.Says.{shownBy, shownOf}
+use Rattle.report.specs.Report.{rowsOf}
+use Rattle.report.proofs.Text.{rows-long}
+
+module _ (i : ℕ) (u : Unit) {f : List Register} {l : Carried} {delivered : IfId} {row : Row} (few : u .n .0 ≤ 64)
+    (so-far : unitWith u i f l ≡ cyclesOf i u)
+    (fetched : delivered ≡ deliveredOf (u .n) (l .count) (getD (u .program) (l .count .0 % 64) 0))
+    (shown : row ≡ shownBy (u .cycle + (i + 1)) delivered (l .fetched) (l .decoded) (l .executed)) where
+  its-row : row ≡ shownOf (cyclesOf i u)
+  its-row =
+      shown ∙ rw (fetched, deliver (u .program) (u .n) (l .count) few, ← (add-assoc (u .cycle) i 1)) (ap shownOf so-far)
+
+  pub row-more : (old out : List ℕ) {number : ℕ} {new : List ℕ} → rowSize * i + rowSize ≤ length out
+      → out ≡ atFront (rowsOf i u) old → (number, new) ≡ rowAt row (rowSize * i) out → new ≡ atFront (rowsOf (i + 1) u) old
+  unfolding rowsOf
+  row-more old out room before put =
+      let written : _ ≡ fromStart (rowSize * i) (rowText row) out = ap (λ (z : ℕ × List ℕ). z .1) (put ∙ sym (row-fits row (rowSize * i) out room)) in
+      written ∙ then-from (rowSize * i) (rowsOf i u) (rowText row) old out (rows-long i u) before ∙ rw (its-row, add-one i)

@@ -1,0 +1,76 @@
+// A job's whole text, as the program `trace` prints it, in a lent buffer.
+
+ghost use mathlib.Core.Path.{_≡_};
+ghost use mathlib.Core.Bool.{true};
+ghost use Rattle.table.specs.Refusal.{ROOM};
+ghost use Rattle.model.specs.Record.{wellMadeOf};
+ghost use Rattle.report.specs.Report.{refusedText, traceText, putOf, reportOf};
+
+mod lines;
+mod rows;
+
+use crate::lines::put_end;
+use crate::lines::put_refused;
+use crate::lines::refused_size;
+use crate::rows::put_rows;
+use model::Unit;
+use printer::ROW_SIZE;
+use table::refusal;
+use wellmade::last;
+
+// How a text was put: 0 and its size, or the number that it is refused with.
+pub struct Reported {
+    pub refusal: u32,
+    pub size: usize,
+}
+
+fn no_room() -> Reported
+    ensures { λ r. ⌜ r ≡ record { refusal = ROOM; size = 0 } ⌝ }
+{
+    Reported {
+        refusal: refusal::ROOM,
+        size: 0,
+    }
+}
+
+fn refused(out: &mut [u8], number: u32) -> Reported
+    ensures { λ r. ⌜ (r, now (out .exit)) ≡ putOf (refusedText number) (now (out .entry)) ⌝ }
+{
+    let size = refused_size(number);
+    if out.len() < size {
+        return no_room();
+    }
+    put_refused(out, number);
+    Reported { refusal: 0, size }
+}
+
+fn trace(out: &mut [u8], u: Unit) -> Reported
+    requires { ⌜ wellMadeOf u ≡ true ⌝ }
+    ensures { λ r. ⌜ (r, now (out .exit)) ≡ putOf (traceText u) (now (out .entry)) ⌝ }
+{
+    let n = u.n;
+    let cycles = last(n) - u.cycle;
+    let end = ROW_SIZE * cycles as usize;
+    if out.len() < end + 7 {
+        return no_room();
+    }
+    put_rows(out, u, cycles);
+    put_end(&mut out[end..], cycles);
+    Reported {
+        refusal: 0,
+        size: end + 7,
+    }
+}
+
+pub fn report(file: &[u8], out: &mut [u8]) -> Reported
+    ensures { λ r. ⌜ (r, now (out .exit)) ≡ reportOf (now (file .entry)) (now (out .entry)) ⌝ }
+{
+    let fresh = unit::fresh();
+    let started = unit::start(fresh, file);
+    let number = started.refusal;
+    if number != 0 {
+        return refused(out, number);
+    }
+    let u = started.unit;
+    trace(out, u)
+}

@@ -1,0 +1,3 @@
+pub mod Says
+pub mod Call
+pub mod Happened
