@@ -1,11 +1,14 @@
 -- What is answered for a text, with room for it and without; and which text it is, by how the start came out.
 -- Assumes nothing.
 use Prim.Native.Nat.{ℕ, _≤_, _<_}
-use mathlib.Core.Path.{_≡_, sym, ap, _∙_}
-use mathlib.Core.Bool.{true}
+use mathlib.Core.Path.{_≡_, sym, ap, subst⁻¹, _∙_}
+use mathlib.Core.Bool.{Bool, true, false, cond}
 use mathlib.Core.List.{List}
+use native.Mathlib.Omega.{arith}
 use borrow.Author.Tests.{lt-ltb, le-ltb, eq-eqb, ne-eqb}
-use lib.ListN.{length}
+use lib.Dec.{ltb}
+use lib.ListN.{length, take, drop, length-append}
+use lib.Seq.{length-take-le}
 use Rattle.front.specs.Front.{atFront}
 use Rattle.table.specs.Refusal.{ROOM}
 use Rattle.job.specs.Layout.{instructionsAt}
@@ -48,3 +51,21 @@ module _ (file : List ℕ) {u : Unit} {s : Started} (fresh : u ≡ freshOf) (sta
         let e : startOf file freshOf .refusal ≡ 0 = ap (λ (x : Started). x .refusal) started ∙ accepted in
         let unit = started-is file freshOf e in
         rw (← started, unit) (well-made-test _ (well-made-started (readOf instructionsAt file .job) freshOf (sound-read file e)))
+
+-- the size of a text that was put counts bytes of the buffer, as a part of the buffer up to it needs
+abbrev Within : Reported × List ℕ → Type 0
+Within x = x .0 .size ≤ length (x .1)
+
+put-within : (text buffer : List ℕ) → Within (putOf text buffer)
+unfolding putOf
+put-within text buffer = go (ltb (length buffer) (length text))
+  where
+    go : (short : Bool) → Within (cond short (record { refusal = ROOM; size = 0 }, buffer) (record { refusal = 0; size = length text }, atFront text buffer))
+    go true = omega arith
+    go false = omega (arith, length-append text (drop (length text) buffer))
+
+pub size-counts : (text buffer : List ℕ) {r : Reported} {after : List ℕ} → (r, after) ≡ putOf text buffer
+    → (r .size ≤ length after) × (r .size ≡ length (take (r .size) after))
+size-counts text buffer {r} {after} e =
+    let within = subst⁻¹ Within e (put-within text buffer) in
+    (within, sym (length-take-le (r .size) after within))

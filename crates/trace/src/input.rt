@@ -1,0 +1,53 @@
+// Reading a file into a lent buffer, in as many pieces as it comes in.
+
+ghost use Rattle.io.specs.Counts.{Counts};
+
+// How many bytes came, or that a read failed.
+pub(crate) struct Came {
+    pub failed: bool,
+    pub size: usize,
+}
+
+// A signal came before the read moved a byte: the read has to be made again.
+fn is_interrupted(got: isize) -> bool {
+    if got < 0 {
+        return os::errno() == libc::EINTR;
+    }
+    false
+}
+
+// One read that no signal interrupts. A proved loop has to end, and nothing says that signals do, so it counts its turns down from a number that no run uses up.
+fn read_once(fd: i32, room: &mut [u8]) -> isize {
+    let mut got = libc::read(fd, room);
+    let mut turns = u64::MAX;
+    while turns > 0 && is_interrupted(got) {
+        turns -= 1;
+        got = libc::read(fd, room);
+    }
+    got
+}
+
+// Until the input ends or the room is full.
+pub(crate) fn read_to_end(fd: i32, room: &mut [u8]) -> Came
+    ensures { λ r. ⌜ Counts (r .size) (now (room .exit)) ⌝ }
+{
+    let mut size = 0;
+    while size < room.len() {
+        let got = read_once(fd, &mut room[size..]);
+        if got < 0 {
+            return Came {
+                failed: true,
+                size: 0,
+            };
+        }
+        let more = io::count(got, &room[size..]);
+        if more == 0 {
+            break;
+        }
+        size += more;
+    }
+    Came {
+        failed: false,
+        size,
+    }
+}
