@@ -12,6 +12,14 @@ use Rattle.stages.proofs.takes_third.Kinds as takes-third-kinds
 use Rattle.stages.proofs.takes_third.Reads as takes-third-reads
 use Rattle.stages.proofs.read_from.Kinds as read-from-kinds
 use Rattle.stages.proofs.read_from.Reads as read-from-reads
+use Rattle.stages.proofs.executed.Kinds as executed-kinds
+use Rattle.stages.proofs.executed.Reads as executed-reads
+use Rattle.stages.proofs.decoded.Kinds as decoded-kinds
+use Rattle.stages.proofs.decoded.Reads as decoded-reads
+use Rattle.stages.proofs.delivered.Kinds as delivered-kinds
+use Rattle.stages.proofs.delivered.Reads as delivered-reads
+use Rattle.stages.proofs.next_count.Kinds as next-count-kinds
+use Rattle.stages.proofs.next_count.Reads as next-count-reads
 use Rattle.stages.proofs.carried_in.Kinds as carried-in-kinds
 use Rattle.stages.proofs.carried_in.Reads as carried-in-reads
 use Rattle.stages.proofs.advanced.Kinds as advanced-kinds
@@ -39,6 +47,18 @@ takes-third-unique κs a x y v w p q = (p ∙ sym q, refl)
 
 pub read-from-unique : Determined 0 read-from-kinds.ps read-from-kinds.r read-from-reads.Post
 read-from-unique κs a x y v w p q = (p ∙ sym q, refl)
+
+pub executed-unique : Determined 0 executed-kinds.ps executed-kinds.r executed-reads.Post
+executed-unique κs a x y v w p q = (p ∙ sym q, refl)
+
+pub decoded-unique : Determined 0 decoded-kinds.ps decoded-kinds.r decoded-reads.Post
+decoded-unique κs a x y v w p q = (p ∙ sym q, refl)
+
+pub delivered-unique : Determined 0 delivered-kinds.ps delivered-kinds.r delivered-reads.Post
+delivered-unique κs a x y v w p q = (p ∙ sym q, refl)
+
+pub next-count-unique : Determined 0 next-count-kinds.ps next-count-kinds.r next-count-reads.Post
+next-count-unique κs a x y v w p q = (p ∙ sym q, refl)
 
 pub carried-in-unique : Determined 0 carried-in-kinds.ps carried-in-kinds.r carried-in-reads.Post
 carried-in-unique κs a x y v w p q = (p ∙ sym q, refl)

@@ -154,7 +154,7 @@ fn work(i: Instruction, o: Operands) -> ExWb
     ExWb::Holds(i, Outcome { value: value })
 }
 
-fn executed(write: Write, latch: IdEx) -> ExWb
+pub fn executed(write: Write, latch: IdEx) -> ExWb
     ensures { λ r. ⌜ r ≡ executedBy write latch ⌝ }
 {
     match latch {
@@ -185,7 +185,7 @@ pub fn read_from(latch: IfId) -> Sources
     }
 }
 
-fn decoded(latch: IfId, read: Operands) -> IdEx
+pub fn decoded(latch: IfId, read: Operands) -> IdEx
     ensures { λ r. ⌜ r ≡ decodedWith latch read ⌝ }
 {
     match latch {
@@ -194,7 +194,7 @@ fn decoded(latch: IfId, read: Operands) -> IdEx
     }
 }
 
-fn delivered(n: Count, count: Count, word: u32) -> IfId
+pub fn delivered(n: Count, count: Count, word: u32) -> IfId
     ensures { λ r. ⌜ r ≡ deliveredOf n count word ⌝ }
 {
     if count.0 < n.0 {
@@ -203,7 +203,7 @@ fn delivered(n: Count, count: Count, word: u32) -> IfId
     IfId::Empty
 }
 
-fn next_count(n: Count, count: Count) -> Count
+pub fn next_count(n: Count, count: Count) -> Count
     ensures { λ r. ⌜ r ≡ nextCount n count ⌝ }
 {
     if count.0 < n.0 {

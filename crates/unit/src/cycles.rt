@@ -6,22 +6,29 @@ ghost use mathlib.Core.Bool.{true};
 ghost use Rattle.model.specs.Cycle.{cyclesOf};
 ghost use Rattle.model.specs.Record.{lastOf, wellMadeOf};
 ghost use Rattle.stages.specs.Stages.{unitWith};
+use model::ExWb;
+use model::IdEx;
+use model::IfId;
 use model::Operands;
 use model::Unit;
 use register::Register;
-use stages::Carried;
+use table::Count;
 
 // The unit put together again after so many cycles.
-fn gone_on(u: Unit, m: u32, registers: [Register; 32], carried: Carried) -> Unit
+fn gone_on(
+    u: Unit,
+    m: u32,
+    registers: [Register; 32],
+    count: Count,
+    fetched: IfId,
+    decoded: IdEx,
+    executed: ExWb,
+) -> Unit
     requires { ⌜ u .cycle + m ≤ 67 ⌝ }
-    ensures { λ r. ⌜ r ≡ unitWith u m registers carried ⌝ }
+    ensures { λ r. ⌜ r ≡ unitWith u m registers (record { count = count; fetched = fetched; decoded = decoded; executed = executed }) ⌝ }
 {
     let program = u.program;
     let n = u.n;
-    let count = carried.count;
-    let fetched = carried.fetched;
-    let decoded = carried.decoded;
-    let executed = carried.executed;
     Unit {
         program,
         n,
@@ -41,30 +48,33 @@ pub(crate) fn cycles(u: Unit, m: u32) -> Unit
     let program = u.program;
     let n = u.n;
     let mut registers = u.registers;
-    let mut carried = stages::carried_in(u);
+    let mut count = u.count;
+    let mut fetched = u.fetched;
+    let mut decoded = u.decoded;
+    let mut executed = u.executed;
     let mut made: u32 = 0;
     while made < m {
         made += 1;
-        let executed = carried.executed;
         let write = stages::written(executed);
         let at = write.at.0 as usize;
         let value = write.value;
         if write.writes {
             registers[at] = value;
         }
-        let fetched = carried.fetched;
         let from = stages::read_from(fetched);
         let first = from.first.0 as usize;
         let second = from.second.0 as usize;
         let third = from.third.0 as usize;
+        executed = stages::executed(write, decoded);
         let read = Operands {
             first: registers[first],
             second: registers[second],
             third: registers[third],
         };
-        let here = (carried.count.0 % 64) as usize;
-        let next = stages::advanced(n, carried, write, read, program[here]);
-        carried = next;
+        let here = (count.0 % 64) as usize;
+        decoded = stages::decoded(fetched, read);
+        fetched = stages::delivered(n, count, program[here]);
+        count = stages::next_count(n, count);
     }
-    gone_on(u, m, registers, carried)
+    gone_on(u, m, registers, count, fetched, decoded, executed)
 }

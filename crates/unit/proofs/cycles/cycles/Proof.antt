@@ -1,7 +1,7 @@
--- Carried by `turn` and `more`. The invariant: registers and what is carried, put together, are the unit after the cycles made so far.
+-- Carried by `turn` and `more`. The invariant: registers, count and latches, put together, are the unit after the cycles made so far.
 use Prim.Native.Nat.{_-_, _≤_}
 use mathlib.Core.Logic.{⊎-elim}
-use mathlib.Core.Path.{_≡_, _∙_}
+use mathlib.Core.Path.{_≡_, refl, _∙_}
 use native.Mathlib.Omega.{arith}
 use borrow.Author.Needs.{needs}
 use Rattle.model.proofs.Made.{well-made-says}
@@ -12,17 +12,14 @@ use Rattle.unit.proofs.cycles.cycles.Statement.{statement}
 use Rattle.unit.proofs.cycles.cycles.Tie as tie
 
 abbrev Inv-loop : tie.InvT-loop
-Inv-loop u m program n registers₀ carried₀ made₀ registers carried made =
-    (unitWith u made registers carried ≡ cyclesOf made u) × (made ≤ m)
+Inv-loop u m program n registers₀ count₀ fetched₀ decoded₀ executed₀ made₀ registers count fetched decoded executed made =
+    (unitWith u made registers (record { count = count; fetched = fetched; decoded = decoded; executed = executed }) ≡ cyclesOf made u) × (made ≤ m)
 
 abbrev μ-loop : tie.MeasureT-loop
-μ-loop u m program n registers₀ carried₀ made₀ registers carried made = m - made
-
-carried-in-requires : tie.Need-carried-in-requires Inv-loop μ-loop
-carried-in-requires c κs = search needs
+μ-loop u m program n registers₀ count₀ fetched₀ decoded₀ executed₀ made₀ registers count fetched decoded executed made = m - made
 
 loop-holds : tie.Need-loop-holds Inv-loop μ-loop
-loop-holds c = (none-yet _ (c .carried-in .ensures), omega arith)
+loop-holds c = (none-yet _ refl, omega arith)
 
 add-made : tie.Need-add-made Inv-loop μ-loop
 add-made c = search needs
@@ -54,13 +51,16 @@ cast-second c = search needs
 cast-third : tie.Need-cast-third Inv-loop μ-loop
 cast-third c = search needs
 
+executed-requires : tie.Need-executed-requires Inv-loop μ-loop
+executed-requires c κs = search needs
+
 mul-t24 : tie.Need-mul-t24 Inv-loop μ-loop
 mul-t24 c = search needs
 
 array-copy-out-t27 : tie.Need-array-copy-out-t27 Inv-loop μ-loop
 array-copy-out-t27 c =
-    let loop = c .before .before .before .before .before .before .before .before .before .loop in
-    let from = read-in-range _ (c .before .before .before .before .before .before .before .before .before .before .before .before .before .before .pre .0) (loop .made) (loop .inv .0) (c .before .before .before .read-from .ensures) in
+    let loop = c .before .before .before .before .before .before .before .before .before .before .loop in
+    let from = read-in-range _ (c .before .before .before .before .before .before .before .before .before .before .before .before .before .before .before .pre .0) (loop .made) (loop .inv .0) (c .before .before .before .before .read-from .ensures) in
     omega (arith, from .0)
 
 mul-t28 : tie.Need-mul-t28 Inv-loop μ-loop
@@ -68,8 +68,8 @@ mul-t28 c = search needs
 
 array-copy-out-t31 : tie.Need-array-copy-out-t31 Inv-loop μ-loop
 array-copy-out-t31 c =
-    let loop = c .before .before .before .before .before .before .before .before .before .before .loop in
-    let from = read-in-range _ (c .before .before .before .before .before .before .before .before .before .before .before .before .before .before .before .pre .0) (loop .made) (loop .inv .0) (c .before .before .before .before .read-from .ensures) in
+    let loop = c .before .before .before .before .before .before .before .before .before .before .before .loop in
+    let from = read-in-range _ (c .before .before .before .before .before .before .before .before .before .before .before .before .before .before .before .before .pre .0) (loop .made) (loop .inv .0) (c .before .before .before .before .before .read-from .ensures) in
     omega (arith, from .1)
 
 mul-t32 : tie.Need-mul-t32 Inv-loop μ-loop
@@ -77,35 +77,46 @@ mul-t32 c = search needs
 
 array-copy-out-t35 : tie.Need-array-copy-out-t35 Inv-loop μ-loop
 array-copy-out-t35 c =
-    let loop = c .before .before .before .before .before .before .before .before .before .before .before .loop in
-    let from = read-in-range _ (c .before .before .before .before .before .before .before .before .before .before .before .before .before .before .before .before .pre .0) (loop .made) (loop .inv .0) (c .before .before .before .before .before .read-from .ensures) in
+    let loop = c .before .before .before .before .before .before .before .before .before .before .before .before .loop in
+    let from = read-in-range _ (c .before .before .before .before .before .before .before .before .before .before .before .before .before .before .before .before .before .pre .0) (loop .made) (loop .inv .0) (c .before .before .before .before .before .before .read-from .ensures) in
     omega (arith, from .2)
 
 cast-here : tie.Need-cast-here Inv-loop μ-loop
 cast-here c = search needs
 
-mul-advanced : tie.Need-mul-advanced Inv-loop μ-loop
-mul-advanced c = search needs
+decoded-requires : tie.Need-decoded-requires Inv-loop μ-loop
+decoded-requires c κs = search needs
 
-array-read-advanced : tie.Need-array-read-advanced Inv-loop μ-loop
-array-read-advanced c = search needs
+mul-delivered : tie.Need-mul-delivered Inv-loop μ-loop
+mul-delivered c = search needs
 
-advanced-requires : tie.Need-advanced-requires Inv-loop μ-loop
-advanced-requires c κs = search needs
+array-read-delivered : tie.Need-array-read-delivered Inv-loop μ-loop
+array-read-delivered c = search needs
+
+delivered-requires : tie.Need-delivered-requires Inv-loop μ-loop
+delivered-requires c κs = search needs
+
+next-count-requires : tie.Need-next-count-requires Inv-loop μ-loop
+next-count-requires c κs = search needs
 
 loop-less : tie.Need-loop-less Inv-loop μ-loop
 loop-less c = search needs
 
 loop-again : tie.Need-loop-again Inv-loop μ-loop
 loop-again c =
-    let loop = c .before .before .before .before .before .before .before .before .before .before .before .before .before .before .loop in (
+    let loop = c .before .before .before .before .before .before .before .before .before .before .before .before .before .before .before .before .before .loop in (
       more _ _ (loop .inv .0)
-          (turn _ (well-made-says _ (c .before .before .before .before .before .before .before .before .before .before .before .before .before .before .before .before .before .before .before .pre .0) .few)
-          (c .before .before .before .before .before .before .before .before .before .before .before .before .written .ensures)
-          (⊎-elim (λ w. w .1 ∙ rw (w .0 .taken)) (λ w. w .1 ∙ rw (w .0 .left)) (c .before .before .before .before .before .before .before .before .before .if1 .came))
-          (c .before .before .before .before .before .before .before .before .read-from .ensures)
-          (c .advanced .ensures)),
-      omega (arith, c .before .before .before .before .before .before .before .before .before .before .before .before .before .loop-test .taken),
+          (turn _ (well-made-says _ (c .before .before .before .before .before .before .before .before .before .before .before .before .before .before .before .before .before .before .before .before .before .before .pre .0) .few)
+          (c .before .before .before .before .before .before .before .before .before .before .before .before .before .before .before .written .ensures)
+          (⊎-elim (λ w. w .1 ∙ rw (w .0 .taken)) (λ w. w .1 ∙ rw (w .0 .left)) (c .before .before .before .before .before .before .before .before .before .before .before .before .if1 .came))
+          (c .before .before .before .before .before .before .before .before .before .before .before .read-from .ensures)
+          (λ i. record {
+            count = c .next-count .ensures i;
+            fetched = c .before .delivered .ensures i;
+            decoded = c .before .before .decoded .ensures i;
+            executed = c .before .before .before .before .before .before .before .executed .ensures i;
+          })),
+      omega (arith, c .before .before .before .before .before .before .before .before .before .before .before .before .before .before .before .before .loop-test .taken),
     )
 
 gone-on-requires : tie.Need-gone-on-requires Inv-loop μ-loop
@@ -124,7 +135,6 @@ cycles-spec =
     (tie.spec
     Inv-loop
     μ-loop
-    carried-in-requires
     loop-holds
     add-made
     written-requires
@@ -135,6 +145,7 @@ cycles-spec =
     cast-first
     cast-second
     cast-third
+    executed-requires
     mul-t24
     array-copy-out-t27
     mul-t28
@@ -142,9 +153,11 @@ cycles-spec =
     mul-t32
     array-copy-out-t35
     cast-here
-    mul-advanced
-    array-read-advanced
-    advanced-requires
+    decoded-requires
+    mul-delivered
+    array-read-delivered
+    delivered-requires
+    next-count-requires
     loop-less
     loop-again
     gone-on-requires
