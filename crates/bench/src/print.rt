@@ -6,25 +6,6 @@ use register::Register;
 // The size of every buffer here: more than the largest job takes.
 pub(crate) const ROOM: usize = 800;
 
-const DIGITS: [u8; 16] = [
-    b'0',
-    b'1',
-    b'2',
-    b'3',
-    b'4',
-    b'5',
-    b'6',
-    b'7',
-    b'8',
-    b'9',
-    b'A',
-    b'B',
-    b'C',
-    b'D',
-    b'E',
-    b'F',
-];
-
 pub(crate) fn text(bytes: &[u8]) {
     io::write_all(STDOUT_FILENO, bytes);
 }
@@ -35,10 +16,17 @@ pub(crate) fn labelled(label: &[u8], number: u64) {
     io::print_decimal(STDOUT_FILENO, number);
 }
 
+// 0 to 9, A to F.
+fn digit(number: u8) -> u8 {
+    let d = number % 16;
+    if d < 10 {
+        return b'0' + d;
+    }
+    b'A' + (d - 10)
+}
+
 pub(crate) fn byte(b: u8) {
-    let high = DIGITS[(b / 16) as usize];
-    let low = DIGITS[(b % 16) as usize];
-    let digits = [high, low];
+    let digits = [digit(b / 16), digit(b)];
     io::write_all(STDOUT_FILENO, &digits);
 }
 
