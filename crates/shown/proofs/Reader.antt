@@ -3,19 +3,17 @@
 use Prim.Native.Nat.{ℕ, suc, _+_, _-_, _<_}
 use mathlib.Core.Path.{_≡_, refl, sym, ap, subst, _∙_}
 use mathlib.Core.Logic.{_⊎_, ⊎-elim}
-use mathlib.Core.Bool.{Bool, true, false, cond, not, _&&_, and-false}
+use mathlib.Core.Bool.{Bool, true, false, cond, _&&_, and-false}
 use mathlib.Core.List.{List}
 use native.Mathlib.Omega.{arith}
 use borrow.Author.Tests.{lt-leb}
 use lib.Dec.{ltb, leb}
-use Rattle.front.specs.Front.{fromStart}
 use lib.ListN.{length, getD, take}
 use Rattle.register.specs.declared.Register.{Register}
 use Rattle.table.specs.declared.Pointer.{Pointer}
 use Rattle.table.specs.declared.Target.{Target}
 use Rattle.table.specs.declared.Target.the-variants.{None, To as ToRegister}
 use Rattle.table.specs.Fields.{isLi, rdOf, firstOf, rs2Of, rs3Of}
-use Rattle.table.specs.Refusal.{DRAINED, ROOM, STATE}
 use Rattle.table.specs.Operation.{Operation, operationOf, readsOf, takesSecond, takesThird, isNop, targetOf}
 use Rattle.plain.specs.Machine.{stored, plain}
 use Rattle.job.specs.Layout.{instructionsAt}
@@ -25,7 +23,7 @@ use Rattle.row.specs.declared.Stage.{Stage}
 use Rattle.row.specs.declared.Stage.the-variants as In
 use Rattle.row.specs.declared.Change.{Change}
 use Rattle.row.specs.declared.Change.the-variants.{Nothing}
-use Rattle.row.specs.Text.{rowText, rowSize}
+use Rattle.row.specs.Text.{rowSize}
 use Rattle.model.specs.declared.Instruction.{Instruction}
 use Rattle.model.specs.declared.IfId.{IfId}
 use Rattle.model.specs.declared.IfId.the-variants as IF/ID
@@ -165,42 +163,30 @@ nothing-raises-nothing (In.Holds w) = simp and-false
 
 -- ---- the call
 
--- "then a cycle tests 8, with a trace row 8 and 9"
-abbrev answered : Unit → List ℕ → List ℕ → Bool → Bool → Bool → Cycled × List ℕ
-answered u buffer new made drained short =
-    cond (not made) (record { refusal = STATE; unit = u }, buffer)
-    (cond drained (record { refusal = DRAINED; unit = u }, buffer)
-    (cond short (record { refusal = ROOM; unit = u }, buffer)
-    (record { refusal = 0; unit = cycleOf u }, new)))
-
 module _ (u : Unit) (start : ℕ) (buffer : List ℕ) where
-  abbrev new : List ℕ
-  new = fromStart start (rowText (shownOf u)) buffer
-
   -- "unit, register file and buffers stay unaltered"
   pub refused-unaltered : (tracedOf u start buffer .0 .refusal ≡ 0 → ⊥) → (tracedOf u start buffer .0 .unit ≡ u) × (tracedOf u start buffer .1 ≡ buffer)
   unfolding tracedOf
-  refused-unaltered = go (wellMadeOf u) (drainedOf u) (ltb (length buffer) (start + rowSize))
+  refused-unaltered h = go (wellMadeOf u) refl (drainedOf u) refl (ltb (length buffer) (start + rowSize)) refl
     where
-      go : (made drained short : Bool) → (answered u buffer new made drained short .0 .refusal ≡ 0 → ⊥)
-          → (answered u buffer new made drained short .0 .unit ≡ u) × (answered u buffer new made drained short .1 ≡ buffer)
-      go false drained short h = (refl, refl)
-      go true true short h = (refl, refl)
-      go true false true h = (refl, refl)
-      go true false false h = absurd (h refl)
+      go : (t : Bool) → wellMadeOf u ≡ t → (s : Bool) → drainedOf u ≡ s → (r : Bool) → ltb (length buffer) (start + rowSize) ≡ r
+          → (tracedOf u start buffer .0 .unit ≡ u) × (tracedOf u start buffer .1 ≡ buffer)
+      go false made s drained r short = rw made (refl, refl)
+      go true made true drained r short = rw (made, drained) (refl, refl)
+      go true made false drained true short = rw (made, drained, short) (refl, refl)
+      go true made false drained false short = absurd (h (rw (made, drained, short)))
 
   -- a cycle with a row leaves the unit that a cycle leaves
   pub as-without-a-row : tracedOf u start buffer .0 .refusal ≡ 0 → tracedOf u start buffer .0 ≡ cycledOf u
   unfolding tracedOf cycledOf
-  as-without-a-row = go (wellMadeOf u) (drainedOf u) (ltb (length buffer) (start + rowSize))
+  as-without-a-row h = go (wellMadeOf u) refl (drainedOf u) refl (ltb (length buffer) (start + rowSize)) refl
     where
-      go : (made drained short : Bool) → answered u buffer new made drained short .0 .refusal ≡ 0
-          → answered u buffer new made drained short .0
-          ≡ cond (not made) (record { refusal = STATE; unit = u }) (cond drained (record { refusal = DRAINED; unit = u }) (record { refusal = 0; unit = cycleOf u }))
-      go false drained short e = absurd (omega arith)
-      go true true short e = absurd (omega arith)
-      go true false true e = absurd (omega arith)
-      go true false false e = refl
+      go : (t : Bool) → wellMadeOf u ≡ t → (s : Bool) → drainedOf u ≡ s → (r : Bool) → ltb (length buffer) (start + rowSize) ≡ r
+          → tracedOf u start buffer .0 ≡ cycledOf u
+      go false made s drained r short = rw made
+      go true made true drained r short = rw (made, drained)
+      go true made false drained true short = let no = rw (made, drained, short) at h in absurd (omega arith)
+      go true made false drained false short = rw (made, drained, short)
 
 -- ---- from a start
 
