@@ -4,7 +4,7 @@
 use Prim.Native.Nat.{ℕ, _≤_, _<_}
 use mathlib.Core.Path.{_≡_, refl}
 use mathlib.Core.Logic.{_↔_}
-use mathlib.Core.Bool.{true, false}
+use mathlib.Core.Bool.{Bool, true, false}
 use borrow.Author.Tests.{lt-ltb, le-ltb}
 use lib.ListN.{getD}
 use Rattle.register.specs.Layout.{zeroRegister}
@@ -35,6 +35,24 @@ pub ill-made-refused : (u : Unit) → wellMadeOf u ≡ false
     × (_≡_ {A = Drained} (askedDrained u) (record { refusal = STATE; drained = false }))
 unfolding cycledOf ranOf registerOf askedDrained
 ill-made-refused u h = (rw h, λ k. rw h, λ i. rw h, rw h)
+
+-- "unit, register file and buffers stay unaltered: a unit .. passed by value comes back as it was given"
+pub cycle-refused : (u : Unit) → (cycledOf u .refusal ≡ 0 → ⊥) → cycledOf u .unit ≡ u
+unfolding cycledOf
+cycle-refused u h = go (wellMadeOf u) refl (drainedOf u) refl
+  where
+    go : (made : Bool) → wellMadeOf u ≡ made → (drained : Bool) → drainedOf u ≡ drained → cycledOf u .unit ≡ u
+    go false w drained d = rw w
+    go true w true d = rw (w, d)
+    go true w false d = absurd (h (rw (w, d)))
+
+pub run-refused : (u : Unit) (k : ℕ) → (ranOf u k .refusal ≡ 0 → ⊥) → ranOf u k .unit ≡ u
+unfolding ranOf
+run-refused u k h = go (wellMadeOf u) refl
+  where
+    go : (made : Bool) → wellMadeOf u ≡ made → ranOf u k .unit ≡ u
+    go false w = rw w
+    go true w = absurd (h (rw w))
 
 -- "a register number over 31"
 pub register-over-31 : (u : Unit) (i : ℕ) → wellMadeOf u ≡ true → 31 < i
