@@ -1,5 +1,3 @@
-pub mod Integers
-pub mod Signed
 pub mod Words
 pub mod Reader
 pub mod Unique

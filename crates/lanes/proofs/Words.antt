@@ -1,23 +1,14 @@
--- The laws of unsigned numbers, once over the width k: products, halves and moved bits fit; ones are counted; bits are rotated.
+-- The laws of unsigned numbers, once over the width k: moved bits fit; ones are counted; bits are rotated.
 -- Assumes nothing.
 use Prim.Native.Nat.{ℕ, zero, suc, _+_, _-_, _*_, _/_, _%_, _^_, _<_, _≤_}
-use mathlib.Core.Path.{_≡_, sym, ap, _∙_, subst, subst⁻¹}
+use mathlib.Core.Path.{_≡_, sym, ap, _∙_, subst}
 use native.Mathlib.Omega.{arith}
-use native.Mathlib.Nat.{le-of-lt, lt-of-le-of-lt, mul-le-mul-left, mul-lt-mul-of-pos-right, pow-suc, add-mul, mul-assoc, add-assoc, mod-lt, mul-comm}
+use native.Mathlib.Nat.{lt-of-le-of-lt, pow-suc, add-mul, mul-assoc, add-assoc, mod-lt, mul-comm}
 use lib.Arith.{digits-lt}
 use lib.Count.{ones, onesIn, ones-step}
 use lib.Pow.{pow-pos, pow-add, split, high, low, shl-lt, shr-le, shr-lt}
-use Rattle.lanes.specs.Width.{join, rotatedRight}
-
--- the product of two numbers of k bits has at most k + k
-pub product-fits : (k : ℕ) {a b : ℕ} → a < 2 ^ k → b < 2 ^ k → a * b < 2 ^ (k + k)
-product-fits k {a} {b} ha hb =
-    subst⁻¹ (λ (n : ℕ). a * b < n) (pow-add 2 k k)
-    (lt-of-le-of-lt (mul-le-mul-left a (le-of-lt hb)) (mul-lt-mul-of-pos-right ha (pow-pos k)))
-
--- two halves of k bits make a number of k + k
-pub join-lt : (k : ℕ) {hi lo : ℕ} → hi < 2 ^ k → lo < 2 ^ k → join k hi lo < 2 ^ (k + k)
-join-lt k {hi} {lo} h l = subst⁻¹ (λ (n : ℕ). hi * 2 ^ k + lo < n) (pow-add 2 k k) (digits-lt h l)
+use Rattle.halved.specs.Halves.{join}
+use Rattle.lanes.specs.Width.{rotatedRight}
 
 -- a number of k bits moved right has k bits, also as the high half of k + k
 pub moved-lt : (k n : ℕ) {x : ℕ} → x < 2 ^ k → x / 2 ^ n < 2 ^ k

@@ -1,20 +1,12 @@
--- What each lane operation of document 01's instruction table gives, in the table's order and by its names, on one lane or one word.
--- Operands come in the order rs1, rs2. (li, NOP and BCW move or leave whole parts of a register: they have no lane operation.)
+-- What each lane operation on unsigned numbers of document 01's instruction table gives, in the table's order and by its names, on one lane or one word.
+-- Operands come in the order rs1, rs2. Those on signed numbers are in `signed/specs/Lane.antt`. (li, NOP and BCW move or leave whole parts of a register:
+-- they have no lane operation.)
 -- Assumes nothing.
-use Prim.Native.Nat.{ℕ, _+_, _*_, _/_, _%_, _^_}
-use mathlib.Core.Bool.{cond}
+use Prim.Native.Nat.{ℕ, _*_, _/_, _%_, _^_}
 use lib.Bits.{bitAnd, bitOr}
 use lib.Count.{onesIn, leadingZeros}
-use lib.IntN.{_+ℤ_, _-ℤ_, _*ℤ_}
-use lib.Signed.{ltZ}
-use Rattle.lanes.specs.Width.{low, halves, sumModulo, differenceModulo, rotatedRight, signed, clamped}
-
--- "multiplied as signed numbers, and the product is added to, or taken from, rs1. The exact result is clamped": halves of k bits, rs1 of k + k
-abbrev pub multiplyAdd : ℕ → ℕ → ℕ → ℕ → ℕ
-multiplyAdd k rs1 a b = clamped (k + k) (signed (k + k) rs1 +ℤ signed k a *ℤ signed k b)
-
-abbrev pub multiplySubtract : ℕ → ℕ → ℕ → ℕ → ℕ
-multiplySubtract k rs1 a b = clamped (k + k) (signed (k + k) rs1 -ℤ signed k a *ℤ signed k b)
+use Rattle.halved.specs.Halves.{low, halves}
+use Rattle.lanes.specs.Width.{sumModulo, differenceModulo, rotatedRight}
 
 -- 1 SHRHI: "halfwords shifted right, zeros in, by the low 4 bits of the rs2 field"
 abbrev pub SHRHI : ℕ → ℕ → ℕ
@@ -28,21 +20,9 @@ AU a b = sumModulo 32 a b
 abbrev pub CNTIH : ℕ → ℕ
 CNTIH w = halves 16 (onesIn 16) w
 
--- 4 AHS: "signed halfwords added, clamped to -32768 .. 32767"
-abbrev pub AHS : ℕ → ℕ → ℕ
-AHS a b = clamped 16 (signed 16 a +ℤ signed 16 b)
-
 -- 5 OR: "bitwise"
 abbrev pub OR : ℕ → ℕ → ℕ
 OR a b = bitOr a b
-
--- 7 MAXWS: "larger signed word"
-abbrev pub MAXWS : ℕ → ℕ → ℕ
-MAXWS a b = cond (ltZ (signed 32 a) (signed 32 b)) b a
-
--- 8 MINWS: "smaller signed word"
-abbrev pub MINWS : ℕ → ℕ → ℕ
-MINWS a b = cond (ltZ (signed 32 a) (signed 32 b)) a b
 
 -- 9 MLHU: "low halves of words multiplied, unsigned"
 abbrev pub MLHU : ℕ → ℕ → ℕ
@@ -67,7 +47,3 @@ ROTW w by = rotatedRight 32 (by % 2 ^ 5) w
 -- 14 SFWU: "rs2 - rs1, words, modulo 2^32"
 abbrev pub SFWU : ℕ → ℕ → ℕ
 SFWU a b = differenceModulo 32 b a
-
--- 15 SFHS: "rs2 - rs1, signed halfwords, clamped"
-abbrev pub SFHS : ℕ → ℕ → ℕ
-SFHS a b = clamped 16 (signed 16 b -ℤ signed 16 a)

@@ -1,3 +1,2 @@
 pub mod Width
 pub mod Lane
-pub mod Inside

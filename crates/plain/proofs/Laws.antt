@@ -15,8 +15,8 @@ use Rattle.table.specs.declared.Pointer.{Pointer}
 use Rattle.table.specs.declared.Target.the-variants.{None, To}
 use Rattle.table.specs.Fields.{firstOf, rs2Of, rs3Of, rdOf}
 use Rattle.table.specs.Operation.{isNop, targetOf}
-use Rattle.table.specs.Gives.{givesOf}
 use Rattle.table.specs.Refusal.{COUNT, WORD, firstBad}
+use Rattle.alu.specs.Gives.{givesOf}
 use Rattle.plain.specs.Machine.{stored, valueOn, stepOn, plainOn, stepRows, plainRows}
 use Rattle.plain.specs.Answer.{answerOf, executeOf, executeAllOf}
 use Rattle.plain.specs.Inside.{chosen}

@@ -10,7 +10,7 @@ use Rattle.table.specs.declared.Target.{Target}
 use Rattle.table.specs.declared.Target.the-variants.{None, To}
 use Rattle.table.specs.Fields.{firstOf, rs2Of, rs3Of}
 use Rattle.table.specs.Operation.{targetOf}
-use Rattle.table.specs.Gives.{givesOf}
+use Rattle.alu.specs.Gives.{givesOf}
 use Rattle.plain.specs.Machine.{stored, valueOn, stepOn, plainOn, plain, plainRows}
 
 -- ---- one word after another

@@ -9,7 +9,7 @@ use Rattle.table.specs.declared.Target.{Target}
 use Rattle.table.specs.declared.Target.the-variants.{None, To}
 use Rattle.table.specs.Fields.{firstOf, rs2Of, rs3Of}
 use Rattle.table.specs.Operation.{targetOf}
-use Rattle.table.specs.Gives.{givesOf}
+use Rattle.alu.specs.Gives.{givesOf}
 
 -- the file with v in the register that is written, if any
 abbrev pub stored : {A : Type 0} → Target → A → List A → List A

@@ -3,15 +3,15 @@
 ghost use mathlib.Core.Path.{_≡_};
 ghost use Rattle.register.specs.Layout.{rowOf, ofRow};
 ghost use Rattle.table.specs.Operation.{targetOf};
-ghost use Rattle.table.specs.Gives.{givesOf};
+ghost use Rattle.alu.specs.Gives.{givesOf};
 ghost use Rattle.plain.specs.Machine.{plainRows};
 ghost use Rattle.plain.specs.Answer.{answerOf, executeOf, executeAllOf};
 ghost use Rattle.plain.specs.Inside.{chosen};
+use alu::gives;
 use register::Register;
 use table::Pointer;
 use table::Target;
 use table::fields;
-use table::gives;
 use table::refusal;
 use table::writes;
 

@@ -1,16 +1,15 @@
-// The reader of job files: the header's tests, then the words and the registers behind it.
+// The reader of job files: by what the header says, the words and the registers behind it.
 
 ghost use Prim.Native.Nat.{_+_, _*_, _≤_};
 ghost use mathlib.Core.Path.{_≡_};
 ghost use lib.ListN.{length, drop};
 ghost use Rattle.register.specs.Layout.{zeroRegister};
-ghost use Rattle.job.specs.Layout.{instructionsAt, LARGEST, sizeOf, wordsIn, registersOf};
-ghost use Rattle.job.specs.Read.{filled, refusedOf, testedOf, headerOf, numberOf, bodyOf, readOf};
+ghost use Rattle.job.specs.Layout.{instructionsAt, sizeOf, wordsIn, registersOf};
+ghost use Rattle.job.specs.Read.{filled, refusedOf, numberOf, bodyOf, readOf};
 
 mod numbers;
 
 use crate::numbers::register_at;
-use crate::numbers::two_at;
 use crate::numbers::word_at;
 use job::Header;
 use job::INSTRUCTIONS_AT;
@@ -19,45 +18,6 @@ use job::ReadJob;
 use register::Register;
 use table::Count;
 use table::refusal;
-
-fn tested(at: usize, n: usize, r: usize, first: usize, second: usize, size: usize) -> Header
-    requires { ⌜ at ≤ LARGEST ⌝ }
-    ensures { λ h. ⌜ h ≡ testedOf at n r first second size ⌝ }
-{
-    if n > 64 {
-        return Header::Refused(refusal::COUNT);
-    }
-    if r > 32 {
-        return Header::Refused(refusal::REGS);
-    }
-    if first != at {
-        return Header::Refused(refusal::PLACE);
-    }
-    if second != at + 4 * n {
-        return Header::Refused(refusal::PLACE);
-    }
-    if size != at + 4 * n + 16 * r {
-        return Header::Refused(refusal::LENGTH);
-    }
-    Header::Counts(Count(n as u8), r)
-}
-
-fn read_header(l: &[u8], at: usize) -> Header
-    requires { ⌜ at ≤ LARGEST ⌝ }
-    ensures { λ h. ⌜ h ≡ headerOf at (now (l .entry)) ⌝ }
-{
-    if l.len() < 8 {
-        return Header::Refused(refusal::SHORT);
-    }
-    tested(
-        at,
-        two_at(l, 0),
-        two_at(l, 2),
-        two_at(l, 4),
-        two_at(l, 6),
-        l.len(),
-    )
-}
 
 fn number(h: Header) -> u32
     ensures { λ k. ⌜ k ≡ numberOf h ⌝ }
@@ -142,7 +102,7 @@ fn read_body(l: &[u8], at: usize, n: Count, r: usize) -> ReadJob
 pub fn read_job(file: &[u8]) -> ReadJob
     ensures { λ r. ⌜ r ≡ readOf instructionsAt (now (file .entry)) ⌝ }
 {
-    let header = read_header(file, INSTRUCTIONS_AT);
+    let header = header::read_header(file);
     let Header::Counts(n, r) = header else {
         return refused(number(header), 0);
     };

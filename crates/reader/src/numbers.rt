@@ -1,25 +1,11 @@
-// Numbers of two and of four bytes and registers of sixteen, least significant byte first, where they stand in a file.
+// Words of four bytes and registers of sixteen, least significant byte first, where they stand in a file.
 
 ghost use Prim.Native.Nat.{_+_, _≤_};
 ghost use mathlib.Core.Path.{_≡_};
 ghost use lib.ListN.{length, drop};
 ghost use Rattle.register.specs.Layout.{wordAt, ofBytes};
-ghost use Rattle.job.specs.Layout.{twoOfBytes, twoAt};
 use register::Register;
 use register::bytes;
-
-fn two_of_bytes(b0: u8, b1: u8) -> usize
-    ensures { λ r. ⌜ r ≡ twoOfBytes b0 b1 ⌝ }
-{
-    (b0 as usize) + (b1 as usize) * 0x100
-}
-
-pub(crate) fn two_at(l: &[u8], at: usize) -> usize
-    requires { ⌜ at + 2 ≤ length (now l) ⌝ }
-    ensures { λ r. ⌜ r ≡ twoAt (now (l .entry)) at ⌝ }
-{
-    two_of_bytes(l[at], l[at + 1])
-}
 
 pub(crate) fn word_at(l: &[u8], at: usize) -> u32
     requires { ⌜ at + 4 ≤ length (now l) ⌝ }

@@ -11,10 +11,9 @@ use borrow.Author.Tests.{eqb-true, eqb-false}
 use lib.Dec.{eqb}
 use lib.ListN.{getD, List·getD-eq-default}
 use lib.Pow as pow
-use Rattle.lanes.specs.Width.{low, high, join}
+use Rattle.halved.specs.Halves.{low, high, half, join}
 use Rattle.register.specs.declared.Register.{Register}
 use Rattle.register.specs.Layout.{number, lane, rowOf}
-use Rattle.register.specs.Across.{half}
 use Rattle.register.proofs.Held.{Held}
 
 -- ---- numbers in digits of k bits, the lowest first
@@ -50,6 +49,14 @@ word-lane i r h =
 
 pub no-word : (i : ℕ) (r : Register) → Held r → 4 ≤ i → lane 32 i r ≡ 0
 no-word i r h l = word-lane i r h ∙ List·getD-eq-default (rowOf r) 0 l
+
+-- a row whose four words are g 0 to g 3
+pub word-by-word : (g : ℕ → ℕ) (r : Register) → r .w0 ≡ g 0 → r .w1 ≡ g 1 → r .w2 ≡ g 2 → r .w3 ≡ g 3 → (n : ℕ) → n < 4 → getD (rowOf r) n 0 ≡ g n
+word-by-word g r e0 e1 e2 e3 zero h = e0
+word-by-word g r e0 e1 e2 e3 (suc zero) h = e1
+word-by-word g r e0 e1 e2 e3 (suc (suc zero)) h = e2
+word-by-word g r e0 e1 e2 e3 (suc (suc (suc zero))) h = e3
+word-by-word g r e0 e1 e2 e3 (suc (suc (suc (suc n)))) h = absurd (omega arith)
 
 -- ---- the halves of a lane
 

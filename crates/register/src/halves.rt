@@ -1,12 +1,11 @@
-// Words and longs taken into halves and put together again.
+// The halves of a word, and words and longs put together from halves.
 
 ghost use mathlib.Core.Path.{_≡_};
-ghost use Rattle.lanes.specs.Width.{join};
 ghost use Prim.Native.Nat.{_<_};
+ghost use Rattle.halved.specs.Halves.{half, join};
 ghost use Rattle.register.specs.Layout.{withHalf};
-ghost use Rattle.register.specs.Across.{half};
 
-pub(crate) fn half_of_word(w: u32, high: bool) -> u16
+pub fn half_of_word(w: u32, high: bool) -> u16
     ensures { λ r. ⌜ r ≡ half 16 high w ⌝ }
 {
     if high {
@@ -16,23 +15,13 @@ pub(crate) fn half_of_word(w: u32, high: bool) -> u16
     }
 }
 
-pub(crate) fn half_of_long(l: u64, high: bool) -> u32
-    ensures { λ r. ⌜ r ≡ half 32 high l ⌝ }
-{
-    if high {
-        (l / 0x1_0000_0000) as u32
-    } else {
-        (l % 0x1_0000_0000) as u32
-    }
-}
-
-pub(crate) fn join_halfwords(hi: u16, lo: u16) -> u32
+pub fn join_halfwords(hi: u16, lo: u16) -> u32
     ensures { λ r. ⌜ r ≡ join 16 hi lo ⌝ }
 {
     (hi as u32) * 0x1_0000 + (lo as u32)
 }
 
-pub(crate) fn join_words(hi: u32, lo: u32) -> u64
+pub fn join_words(hi: u32, lo: u32) -> u64
     ensures { λ r. ⌜ r ≡ join 32 hi lo ⌝ }
 {
     (hi as u64) * 0x1_0000_0000 + (lo as u64)

@@ -1,13 +1,10 @@
-// A register of 128 bits, made from and given back as bytes and rows, and the lane operations across whole registers.
+// A register of 128 bits, made from and given back as bytes and rows.
 
 ghost use mathlib.Core.Path.{_≡_};
 ghost use Rattle.register.specs.Layout.{lane, zeroRegister, rowOf, ofRow, bytesOf, ofBytes, withHalfword};
 
 pub mod bytes;
-pub mod halfwords;
-mod halves;
-pub mod multiply;
-pub mod words;
+pub mod halves;
 
 use bytes::word_of_bytes;
 use halves::half_of_word;

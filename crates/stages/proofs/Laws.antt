@@ -1,11 +1,11 @@
--- The stages on latches and registers are "One cycle", stage by stage; and two instructions are tested for being the same, field by field.
+-- The stages on latches and registers are "One cycle", stage by stage.
 -- Assumes nothing.
-use Prim.Native.Nat.{ℕ, _<_, _≤_, _%_}
+use Prim.Native.Nat.{ℕ, _+_, _<_, _≤_, _%_}
 use mathlib.Core.Path.{_≡_, refl}
 use mathlib.Core.Bool.{Bool, true, false, cond, _&&_}
 use mathlib.Core.List.{List}
 use native.Mathlib.Omega.{arith}
-use borrow.Author.Tests.{ltb-true, eq-eqb, ne-eqb}
+use borrow.Author.Tests.{le-ltb, lt-ltb, ltb-true}
 use lib.Dec.{ltb}
 use lib.ListN.{getD, set}
 use Rattle.register.specs.declared.Register.{Register}
@@ -22,9 +22,8 @@ use Rattle.model.specs.declared.IdEx.{IdEx}
 use Rattle.model.specs.declared.IdEx.the-variants as ID/EX
 use Rattle.model.specs.declared.ExWb.{ExWb}
 use Rattle.model.specs.declared.ExWb.the-variants as EX/WB
-use Rattle.model.specs.Cycle.{afterWB, isTarget, newest, readBy, afterEX, afterID, afterIF}
-use Rattle.model.specs.Record.{sameTarget, sameInstruction}
-use Rattle.stages.specs.Stages.{writeTo, writeOf, newestBy, executedBy, sourcesOf, readAt, decodedWith, deliveredOf}
+use Rattle.model.specs.Cycle.{afterWB, isTarget, newest, readBy, afterEX, afterID, afterIF, instructionOf}
+use Rattle.stages.specs.Stages.{writeTo, writeOf, newestBy, executedBy, sourcesOf, readAt, decodedWith, deliveredOf, nextCount}
 
 -- ---- WB
 
@@ -81,23 +80,16 @@ deliver program n k small = go (ltb (k .0) (n .0)) refl
         rw same
     go false q = rw q
 
--- ---- the same instruction, in the order of the tests
+-- ---- IF, below the count n and at it or above
 
-module _ (i j : Instruction) where
-  pub other-word : (i .word ≡ j .word → ⊥) → false ≡ sameInstruction i j
-  other-word h = rw (ne-eqb _ _ h)
+pub delivers : (n k : Count) (w : ℕ) {i : Instruction} → k .0 < n .0 → i ≡ instructionOf w → IF/ID.Holds i ≡ deliveredOf n k w
+delivers n k w h e = rw (lt-ltb _ _ h, e)
 
-  module _ (word : i .word ≡ j .word) where
-    pub other-first : (i .first .0 ≡ j .first .0 → ⊥) → false ≡ sameInstruction i j
-    other-first h = rw (eq-eqb _ _ word, ne-eqb _ _ h)
+pub delivers-nothing : (n k : Count) (w : ℕ) → n .0 ≤ k .0 → IF/ID.Empty ≡ deliveredOf n k w
+delivers-nothing n k w h = rw (le-ltb _ _ h)
 
-    module _ (first : i .first .0 ≡ j .first .0) where
-      pub other-second : (i .second .0 ≡ j .second .0 → ⊥) → false ≡ sameInstruction i j
-      other-second h = rw (eq-eqb _ _ word, eq-eqb _ _ first, ne-eqb _ _ h)
+pub adds-one : (n k : Count) → k .0 < n .0 → _≡_ {A = Count} (record { 0 = k .0 + 1 }) (nextCount n k)
+adds-one n k h = rw (lt-ltb _ _ h)
 
-      module _ (second : i .second .0 ≡ j .second .0) where
-        pub other-third : (i .third .0 ≡ j .third .0 → ⊥) → false ≡ sameInstruction i j
-        other-third h = rw (eq-eqb _ _ word, eq-eqb _ _ first, eq-eqb _ _ second, ne-eqb _ _ h)
-
-        pub the-same : i .third .0 ≡ j .third .0 → {t : Bool} → t ≡ sameTarget (i .target) (j .target) → t ≡ sameInstruction i j
-        the-same third e = rw (eq-eqb _ _ word, eq-eqb _ _ first, eq-eqb _ _ second, eq-eqb _ _ third) e
+pub count-stays : (n k : Count) → n .0 ≤ k .0 → k ≡ nextCount n k
+count-stays n k h = rw (le-ltb _ _ h)

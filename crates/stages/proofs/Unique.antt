@@ -24,14 +24,6 @@ use Rattle.stages.proofs.carried_in.Kinds as carried-in-kinds
 use Rattle.stages.proofs.carried_in.Reads as carried-in-reads
 use Rattle.stages.proofs.advanced.Kinds as advanced-kinds
 use Rattle.stages.proofs.advanced.Reads as advanced-reads
-use Rattle.stages.proofs.latches.in_decoded.Kinds as in-decoded-kinds
-use Rattle.stages.proofs.latches.in_decoded.Reads as in-decoded-reads
-use Rattle.stages.proofs.latches.in_executed.Kinds as in-executed-kinds
-use Rattle.stages.proofs.latches.in_executed.Reads as in-executed-reads
-use Rattle.stages.proofs.latches.is_empty.Kinds as is-empty-kinds
-use Rattle.stages.proofs.latches.is_empty.Reads as is-empty-reads
-use Rattle.stages.proofs.latches.same_held.Kinds as same-held-kinds
-use Rattle.stages.proofs.latches.same_held.Reads as same-held-reads
 
 pub instruction-unique : Determined 0 instruction-kinds.ps instruction-kinds.r instruction-reads.Post
 instruction-unique κs a x y v w p q = (p ∙ sym q, refl)
@@ -65,15 +57,3 @@ carried-in-unique κs a x y v w p q = (p ∙ sym q, refl)
 
 pub advanced-unique : Determined 0 advanced-kinds.ps advanced-kinds.r advanced-reads.Post
 advanced-unique κs a x y v w p q = (p ∙ sym q, refl)
-
-pub in-decoded-unique : Determined 0 in-decoded-kinds.ps in-decoded-kinds.r in-decoded-reads.Post
-in-decoded-unique κs a x y v w p q = (p ∙ sym q, refl)
-
-pub in-executed-unique : Determined 0 in-executed-kinds.ps in-executed-kinds.r in-executed-reads.Post
-in-executed-unique κs a x y v w p q = (p ∙ sym q, refl)
-
-pub is-empty-unique : Determined 0 is-empty-kinds.ps is-empty-kinds.r is-empty-reads.Post
-is-empty-unique κs a x y v w p q = (p ∙ sym q, refl)
-
-pub same-held-unique : Determined 0 same-held-kinds.ps same-held-kinds.r same-held-reads.Post
-same-held-unique κs a x y v w p q = (p ∙ sym q, refl)

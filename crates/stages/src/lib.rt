@@ -4,9 +4,7 @@ ghost use mathlib.Core.Path.{_≡_};
 ghost use Rattle.table.specs.Operation.{takesFirst, takesSecond, takesThird};
 ghost use Rattle.model.specs.Cycle.{instructionOf, worked};
 ghost use Rattle.stages.specs.Stages.{writeTo, writeOf, newestBy, newestOperandsBy, executedBy, sourcesOf, decodedWith, deliveredOf, nextCount, carriedOf, advancedOf};
-
-pub mod latches;
-
+use alu::gives;
 use model::ExWb;
 use model::IdEx;
 use model::IfId;
@@ -20,7 +18,6 @@ use table::Pointer;
 use table::Reads;
 use table::Target;
 use table::fields;
-use table::gives;
 use table::operands;
 use table::writes;
 
@@ -206,7 +203,7 @@ pub fn delivered(n: Count, count: Count, word: u32) -> IfId
 pub fn next_count(n: Count, count: Count) -> Count
     ensures { λ r. ⌜ r ≡ nextCount n count ⌝ }
 {
-    if count.0 < n.0 {
+    if n.0 > count.0 {
         return Count(count.0 + 1);
     }
     count

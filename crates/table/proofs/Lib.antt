@@ -1,5 +1,4 @@
 pub mod Rows
 pub mod Places
 pub mod Reader
-pub mod Bench
 pub mod Unique

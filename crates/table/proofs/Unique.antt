@@ -34,8 +34,6 @@ use Rattle.table.proofs.operands.reads.Kinds as reads-kinds
 use Rattle.table.proofs.operands.reads.Reads as reads-reads
 use Rattle.table.proofs.writes.target_of.Kinds as target-of-kinds
 use Rattle.table.proofs.writes.target_of.Reads as target-of-reads
-use Rattle.table.proofs.gives.gives.Kinds as gives-kinds
-use Rattle.table.proofs.gives.gives.Reads as gives-reads
 use Rattle.table.proofs.refusal.first_bad.Kinds as first-bad-kinds
 use Rattle.table.proofs.refusal.first_bad.Reads as first-bad-reads
 
@@ -90,9 +88,6 @@ reads-unique κs a x y v w p q = (p ∙ sym q, refl)
 
 pub target-of-unique : Determined 0 target-of-kinds.ps target-of-kinds.r target-of-reads.Post
 target-of-unique κs a x y v w p q = (p ∙ sym q, refl)
-
-pub gives-unique : Determined 0 gives-kinds.ps gives-kinds.r gives-reads.Post
-gives-unique κs a x y v w p q = (p ∙ sym q, refl)
 
 pub first-bad-unique : Determined 1 first-bad-kinds.ps first-bad-kinds.r first-bad-reads.Post
 first-bad-unique κs a x y v w p q = (p ∙ sym q, refl)

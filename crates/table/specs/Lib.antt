@@ -1,4 +1,3 @@
 pub mod Fields
 pub mod Operation
-pub mod Gives
 pub mod Refusal

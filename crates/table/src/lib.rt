@@ -1,7 +1,6 @@
-// The published instruction table: the fields of a word, what it reads, what it writes, and what it gives from its operands.
+// The published instruction table: the fields of a word, what it reads and what it writes.
 
 pub mod fields;
-pub mod gives;
 pub mod operands;
 pub mod refusal;
 pub mod writes;

@@ -16,7 +16,6 @@ use row::Flags;
 use row::Row;
 use row::Stage;
 use stages::Carried;
-use stages::latches;
 use table::Pointer;
 use table::Reads;
 use table::Target;

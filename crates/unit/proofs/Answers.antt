@@ -1,47 +1,25 @@
 -- What each call answers, from what its parts give. Carried by rewriting each test as it came out; a run goes by `ran` of crate `model`.
 -- Assumes nothing.
 use Prim.Native.Nat.{ℕ, _+_, _-_, _≤_, _<_, min}
-use mathlib.Core.Path.{_≡_, sym, ap, _∙_}
+use mathlib.Core.Path.{_≡_, sym, _∙_}
 use mathlib.Core.Bool.{Bool, true, false}
-use mathlib.Core.List.{List}
 use native.Mathlib.Omega.{arith}
-use borrow.Author.Tests.{eq-eqb, ne-eqb, leb-false}
+use borrow.Author.Tests.{leb-false}
 use lib.ListN.{getD}
-use Rattle.register.specs.declared.Register.{Register}
 use Rattle.register.specs.Layout.{zeroRegister}
 use Rattle.table.specs.Refusal.{POINTER, DRAINED, STATE}
-use Rattle.job.specs.declared.ReadJob.{ReadJob}
-use Rattle.job.specs.Layout.{instructionsAt}
-use Rattle.job.specs.Read.{readOf}
 use Rattle.model.specs.declared.Unit.{Unit}
-use Rattle.model.specs.declared.Started.{Started}
 use Rattle.model.specs.declared.Cycled.{Cycled}
 use Rattle.model.specs.declared.Ran.{Ran}
 use Rattle.model.specs.Cycle.{cyclesOf}
 use Rattle.model.specs.Record.{drainedOf, lastOf, wellMadeOf}
-use Rattle.model.specs.Calls.{begunOf, registersSet, startOf, cycledOf, ranOf, registerOf, askedDrained}
+use Rattle.model.specs.Calls.{cycledOf, ranOf, registerOf, askedDrained}
 use Rattle.model.proofs.Control.{drained-is}
 use Rattle.model.proofs.Made.{well-made-says}
-use Rattle.model.proofs.FromStart.{sound-read, ran}
+use Rattle.model.proofs.FromStart.{ran}
 use Rattle.model.proofs.Reader.{ill-made-refused, register-over-31, register-to-31}
 
--- ---- a start
-
-module _ (file : List ℕ) (u : Unit) {read : ReadJob} (reads : read ≡ readOf instructionsAt file) where
-  pub refused : (read .refusal ≡ 0 → ⊥) → _≡_ {A = Started} (record { refusal = read .refusal; place = read .place; unit = u }) (startOf file u)
-  unfolding startOf
-  refused h = rw (← reads, ne-eqb _ _ h)
-
-  pub few-registers : read .refusal ≡ 0 → read .job .r ≤ 32
-  few-registers e = rw reads (sound-read file (sym (ap (λ (r : ReadJob). r .refusal) reads) ∙ e) .fewer)
-
-  pub accepted : {f : List Register} {v : Unit} → read .refusal ≡ 0
-      → f ≡ registersSet (read .job .r) (read .job .registers) (u .registers) → v ≡ begunOf (read .job .words) (read .job .n) f
-      → _≡_ {A = Started} (record { refusal = read .refusal; place = read .place; unit = v }) (startOf file u)
-  unfolding startOf
-  accepted e g h = rw (h, ← reads, eq-eqb _ _ e, g)
-
--- ---- the other calls
+-- ---- a cycle, a run
 
 module _ (u : Unit) where
   module _ (made : wellMadeOf u ≡ true) where

@@ -23,7 +23,6 @@ use Rattle.model.specs.declared.ExWb.the-variants as EX/WB
 use Rattle.model.specs.declared.Unit.{Unit}
 use Rattle.model.specs.Cycle.{instructionOf, afterWB, afterID, afterIF, cycleOf, cyclesOf}
 use Rattle.model.specs.Record.{inExecuted, lastOf, heldOf, wellMadeOf}
-use Rattle.model.specs.Calls.{registersSet}
 use Rattle.model.proofs.Control.{Placed, placed-cycles}
 use Rattle.model.proofs.Made.{well-made-says}
 use Rattle.stages.specs.declared.Carried.{Carried}
@@ -131,8 +130,3 @@ module _ (u : Unit) (made : wellMadeOf u ≡ true) (c : ℕ) {f : List Register}
   write-in-range h =
       let s = subst Small (sym (placed .in-EX/WB)) (small-held (u .program) (u .n .0) 3 (u .cycle + c)) in
       rw (h, at-is (l .executed)) (s .target)
-
--- ---- the loop that sets registers
-
-pub next-set : (file old : List Register) (i : ℕ) {f : List Register} → f ≡ registersSet i file old → set f i (getD file i zeroRegister) ≡ registersSet (i + 1) file old
-next-set file old i e = rw (e, add-one i)

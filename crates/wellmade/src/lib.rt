@@ -7,7 +7,6 @@ ghost use lib.ListN.{length};
 ghost use Rattle.model.specs.Record.{drainedOf, lastOf, heldOf, sameHeld, wellMadeOf};
 use model::IfId;
 use model::Unit;
-use stages::latches;
 use table::Count;
 use table::refusal;
 

@@ -8,8 +8,8 @@ use denote.Struct.Laws as LL
 use Rattle.model.specs.Calls.{startOf}
 use Rattle.model.specs.declared.Started.{Started}
 use Rattle.model.proofs.Started as R
-use Rattle.unit.proofs.start.Met.{met}
-use Rattle.unit.proofs.start.Symbol as core
+use Rattle.starting.proofs.start.Met.{met}
+use Rattle.starting.proofs.start.Symbol as core
 use Rattle.lent.specs.declared.Placed.{Placed}
 use Rattle.lent.proofs.Answers.{Told, told}
 use Rattle.lent.proofs.Beside.{bytes}

@@ -1,6 +1,7 @@
 -- Carried by the test alone, and the contract of `instruction` where a word is delivered.
-use borrow.Author.Tests.{lt-ltb, le-ltb}
+use native.Mathlib.Omega.{arith}
 use borrow.Author.Needs.{needs}
+use Rattle.stages.proofs.Laws.{delivers, delivers-nothing}
 use Rattle.stages.proofs.delivered.Statement.{statement}
 use Rattle.stages.proofs.delivered.Tie as tie
 
@@ -8,10 +9,10 @@ instruction-requires : tie.Need-instruction-requires
 instruction-requires c κs = search needs
 
 returns : tie.Need-returns
-returns c = rw (lt-ltb _ _ (c .before .if1 .taken), c .instruction .ensures)
+returns c = let a = c .before .before .before .before .args in delivers (a .n) (a .count) (a .word) (omega arith) (c .instruction .ensures)
 
 returns-2 : tie.Need-returns-2
-returns-2 c = rw (le-ltb _ _ (c .if1 .left))
+returns-2 c = let a = c .before .before .before .args in delivers-nothing (a .n) (a .count) (a .word) (omega arith)
 
 pub delivered-spec : {M : Type 1} → statement M
 delivered-spec = tie.close (tie.spec instruction-requires returns returns-2)

@@ -1,6 +1,7 @@
 -- Carried by `moved-lt` and `join-lt`: a halfword moved right stays a halfword.
 use native.Mathlib.Omega.{arith}
 use borrow.Author.Needs.{needs}
+use Rattle.halved.proofs.Joined.{join-lt}
 use Rattle.lanes.proofs.Words as words
 use Rattle.lanes.proofs.moved.shift_halfwords_right.Statement.{statement}
 use Rattle.lanes.proofs.moved.shift_halfwords_right.Tie as tie
@@ -15,7 +16,7 @@ shr-result-2 : tie.Need-shr-result-2
 shr-result-2 c = search needs
 
 add-result : tie.Need-add-result
-add-result c = record { fits = words.join-lt 16 (words.moved-lt 16 _ (omega arith)) (words.moved-lt 16 _ (omega arith)) }
+add-result c = record { fits = join-lt 16 (words.moved-lt 16 _ (omega arith)) (words.moved-lt 16 _ (omega arith)) }
 
 returns : tie.Need-returns
 returns c = search needs

@@ -1,12 +1,12 @@
 -- Carried by `product-fits`.
 use native.Mathlib.Omega.{arith}
 use borrow.Author.Needs.{needs}
-use Rattle.lanes.proofs.Words as words
+use Rattle.halved.proofs.Joined.{product-fits}
 use Rattle.lanes.proofs.multiplied.multiply_low_half_by.Statement.{statement}
 use Rattle.lanes.proofs.multiplied.multiply_low_half_by.Tie as tie
 
 mul-result : tie.Need-mul-result
-mul-result c = record { fits = words.product-fits 16 (omega arith) (omega arith) }
+mul-result c = record { fits = product-fits 16 (omega arith) (omega arith) }
 
 returns : tie.Need-returns
 returns c = search needs

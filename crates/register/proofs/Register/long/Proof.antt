@@ -1,7 +1,7 @@
 -- Carried by `joined-lanes`: a long is its two words joined; beyond long 1 by `no-long`.
 use mathlib.Core.Path.{sym, ap₂, _∙_}
 use borrow.Author.Needs.{needs}
-use Rattle.lanes.specs.Width.{join}
+use Rattle.halved.specs.Halves.{join}
 use Rattle.register.proofs.Held.{held}
 use Rattle.register.proofs.Lanes as lanes
 use Rattle.register.proofs.Register.long.Statement.{statement}

@@ -1,0 +1,5 @@
+// The lane operations across whole registers.
+
+pub mod halfwords;
+pub mod multiply;
+pub mod words;

@@ -1,0 +1,3 @@
+// What each instruction of the table gives from its operands.
+
+pub mod gives;

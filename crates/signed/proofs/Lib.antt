@@ -1,0 +1,4 @@
+pub mod Integers
+pub mod Signed
+pub mod Reader
+pub mod Unique

@@ -1,0 +1,16 @@
+-- Carried by the contract of `clamped_sum`, at the product.
+use borrow.Author.Needs.{needs}
+use Rattle.signed.proofs.clamped.multiply_add_32.Statement.{statement}
+use Rattle.signed.proofs.clamped.multiply_add_32.Tie as tie
+
+product-requires : tie.Need-product-requires
+product-requires c κs = search needs
+
+clamped-sum-requires : tie.Need-clamped-sum-requires
+clamped-sum-requires c κs = search needs
+
+returns : tie.Need-returns
+returns c = rw (c .before .product .ensures) at (c .clamped-sum .ensures .0)
+
+pub multiply-add-32-spec : {M : Type 1} → statement M
+multiply-add-32-spec = tie.close (tie.spec product-requires clamped-sum-requires returns)
