@@ -1,3 +1,4 @@
-pub mod Rows
 pub mod Bench
+pub mod Reader
+pub mod Rows
 pub mod Unique

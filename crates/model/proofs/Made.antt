@@ -102,6 +102,14 @@ well-made-says u e =
       };
     }
 
+-- "67 at most"
+pub last-small : (u : Unit) → wellMadeOf u ≡ true → lastOf (u .n .0) ≤ 67
+last-small u made = go (eqb (u .n .0) 0)
+  where
+    go : (t : Bool) → cond t 0 (u .n .0 + 3) ≤ 67
+    go true = omega arith
+    go false = omega (arith, well-made-says u made .few)
+
 pub well-made-test : (u : Unit) → WellMade u → wellMadeOf u ≡ true
 unfolding wellMadeOf
 well-made-test u w =

@@ -15,11 +15,11 @@ use Rattle.job.specs.declared.ReadJob.{ReadJob}
 use Rattle.job.specs.Layout.{LARGEST}
 use Rattle.job.specs.Read.{headerOf, testedOf, bodyOf}
 use Rattle.job.proofs.TooLong.{first-bytes-decide}
+use Rattle.model.proofs.Made.{last-small}
 use Rattle.model.specs.declared.Unit.{Unit}
 use Rattle.model.specs.Record.{lastOf}
 use Rattle.model.specs.Calls.{freshOf, startedBy, startOf}
 use Rattle.model.proofs.FromStart.{started-is}
-use Rattle.unit.proofs.Loop.{last-small}
 use Rattle.report.specs.Report.{rowsOf, endText, refusedText, textFor, reportText, putOf, reportOf, largestText}
 use Rattle.report.proofs.Text.{trace-is, trace-long, refused-long}
 use Rattle.report.proofs.Answers.{text-put, text-refused, text-accepted, started-made}

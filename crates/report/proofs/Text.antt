@@ -14,10 +14,9 @@ use Rattle.model.specs.declared.Unit.{Unit}
 use Rattle.model.specs.declared.Ran.{Ran}
 use Rattle.model.specs.Cycle.{cyclesOf}
 use Rattle.model.specs.Record.{lastOf, wellMadeOf}
-use Rattle.model.proofs.Made.{well-made-says}
+use Rattle.model.proofs.Made.{well-made-says, last-small}
 use Rattle.model.proofs.FromStart.{ran}
 use Rattle.shown.specs.Says.{shownOf}
-use Rattle.unit.proofs.Loop.{last-small}
 use Rattle.report.specs.Report.{rowsOf, endText, refusedText, cyclesLeft, traceText}
 
 -- ---- a trace

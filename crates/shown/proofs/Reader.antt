@@ -1,12 +1,12 @@
 -- For the reader of specs/: what a row says is what happened. Carried by where the latches are (`Control` of crate `model`) and by the cases of a latch.
 -- Assumes nothing.
-use Prim.Native.Nat.{ℕ, suc, _+_, _-_, _<_}
+use Prim.Native.Nat.{ℕ, suc, _+_, _-_, _<_, _≤_}
 use mathlib.Core.Path.{_≡_, refl, sym, ap, subst, _∙_}
 use mathlib.Core.Logic.{_⊎_, ⊎-elim}
 use mathlib.Core.Bool.{Bool, true, false, cond, _&&_, and-false}
 use mathlib.Core.List.{List}
 use native.Mathlib.Omega.{arith}
-use borrow.Author.Tests.{lt-leb}
+use borrow.Author.Tests.{leb-false, lt-leb}
 use lib.Dec.{ltb, leb}
 use lib.ListN.{length, getD, take}
 use Rattle.register.specs.declared.Register.{Register}
@@ -37,8 +37,8 @@ use Rattle.model.specs.Cycle.{instructionOf, isTarget, afterWB, afterIF, cycleO
 use Rattle.model.specs.Record.{inDecoded, inExecuted, lastOf, heldOf, drainedOf, wellMadeOf}
 use Rattle.model.specs.Calls.{registersSet, startOf, cycledOf}
 use Rattle.model.specs.Sequence.{Whole, afterCalls}
-use Rattle.model.proofs.Control.{placed-cycle, held-later}
-use Rattle.model.proofs.Made.{well-made-says}
+use Rattle.model.proofs.Control.{placed-cycle, held-later, drained-is}
+use Rattle.model.proofs.Made.{well-made-says, last-small}
 use Rattle.model.proofs.Demand3.{demand3-registers, demand3-cycle-answers}
 use Rattle.shown.proofs.Going.{goes}
 use Rattle.shown.specs.Says.{stageOf, readsRs1, writesTo, flagsOf, changeTo, changeOf, shownBy, shownOf}
@@ -64,6 +64,14 @@ row-stages u made =
       ap stageOf (h .in-ID/EX ∙ later 2 (u .cycle)),
       ap stageOf (h .in-EX/WB ∙ later 3 (u .cycle)),
     )
+
+-- "cycle (two decimal digits, 67 at most)"
+pub row-cycle : (u : Unit) → cycledOf u .refusal ≡ 0 → shownOf u .cycle ≤ 67
+unfolding shownBy
+row-cycle u e =
+    let going = goes u e in
+    let more = leb-false (lastOf (u .n .0)) (u .cycle) (sym (drained-is u (well-made-says u (going .made) .placed)) ∙ going .more) in
+    omega (arith, more, last-small u (going .made))
 
 -- ---- the register written, and its new value
 

@@ -5,7 +5,7 @@ use mathlib.Core.Path.{_≡_, refl}
 use mathlib.Core.Bool.{Bool, true, false, cond, _&&_}
 use mathlib.Core.List.{List}
 use native.Mathlib.Omega.{arith}
-use borrow.Author.Tests.{le-ltb, lt-ltb, ltb-true}
+use borrow.Author.Tests.{eq-eqb, le-ltb, lt-ltb, ltb-true, ne-eqb}
 use lib.Dec.{ltb}
 use lib.ListN.{getD, set}
 use Rattle.register.specs.declared.Register.{Register}
@@ -23,6 +23,7 @@ use Rattle.model.specs.declared.IdEx.the-variants as ID/EX
 use Rattle.model.specs.declared.ExWb.{ExWb}
 use Rattle.model.specs.declared.ExWb.the-variants as EX/WB
 use Rattle.model.specs.Cycle.{afterWB, isTarget, newest, readBy, afterEX, afterID, afterIF, instructionOf}
+use Rattle.stages.specs.declared.Write.{Write}
 use Rattle.stages.specs.Stages.{writeTo, writeOf, newestBy, executedBy, sourcesOf, readAt, decodedWith, deliveredOf, nextCount}
 
 -- ---- WB
@@ -79,6 +80,14 @@ deliver program n k small = go (ltb (k .0) (n .0)) refl
         let same : k .0 % 64 ≡ k .0 = omega arith in
         rw same
     go false q = rw q
+
+-- what EX takes where all three tests came out, and where the last did not
+pub taken : {reads : Bool} (w : Write) (p : Pointer) (latched : Register) → reads ≡ true → w .writes ≡ true → w .at .0 ≡ p .0 → w .value ≡ newestBy reads w p latched
+taken w p latched e f g = rw (e, f, eq-eqb _ _ g)
+
+pub not-taken : {reads : Bool} (w : Write) (p : Pointer) (latched : Register) → reads ≡ true → w .writes ≡ true → (w .at .0 ≡ p .0 → ⊥)
+    → latched ≡ newestBy reads w p latched
+not-taken w p latched e f g = rw (e, f, ne-eqb _ _ g)
 
 -- ---- IF, below the count n and at it or above
 

@@ -8,7 +8,7 @@ use mathlib.Core.List.{List}
 use native.Mathlib.Nat.{add-assoc, add-zero}
 use native.Mathlib.Numerals.{add-one}
 use native.Mathlib.Omega.{arith}
-use lib.Dec.{eqb, ltb, leb}
+use lib.Dec.{ltb, leb}
 use lib.ListN.{getD, set}
 use Rattle.register.specs.declared.Register.{Register}
 use Rattle.register.specs.Layout.{zeroRegister}
@@ -22,7 +22,7 @@ use Rattle.model.specs.declared.ExWb.{ExWb}
 use Rattle.model.specs.declared.ExWb.the-variants as EX/WB
 use Rattle.model.specs.declared.Unit.{Unit}
 use Rattle.model.specs.Cycle.{instructionOf, afterWB, afterID, afterIF, cycleOf, cyclesOf}
-use Rattle.model.specs.Record.{inExecuted, lastOf, heldOf, wellMadeOf}
+use Rattle.model.specs.Record.{inExecuted, heldOf, wellMadeOf}
 use Rattle.model.proofs.Control.{Placed, placed-cycles}
 use Rattle.model.proofs.Made.{well-made-says}
 use Rattle.stages.specs.declared.Carried.{Carried}
@@ -57,17 +57,6 @@ pub more : (i : ℕ) (u : Unit) {f g : List Register} {k l : Carried} → unitWi
 unfolding cyclesOf
 more i u {g = g} {l = l} h e =
     rw (sym (add-assoc (u .cycle) i 1)) e ∙ ap cycleOf h ∙ rw (add-one i)
-
--- a cycle number stays small
-pub last-small : (u : Unit) → wellMadeOf u ≡ true → lastOf (u .n .0) ≤ 67
-last-small u made = go (eqb (u .n .0) 0)
-  where
-    few : u .n .0 ≤ 64
-    few = well-made-says u made .few
-
-    go : (t : Bool) → cond t 0 (u .n .0 + 3) ≤ 67
-    go true = omega arith
-    go false = omega (arith, few)
 
 -- ---- every pointer of an instruction of a program is a register
 

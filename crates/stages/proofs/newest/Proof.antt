@@ -1,14 +1,18 @@
 -- Carried by the three tests, as each came out.
-use borrow.Author.Tests.{eq-eqb, ne-eqb}
 use borrow.Author.Needs.{needs}
+use Rattle.stages.proofs.Laws.{taken, not-taken}
 use Rattle.stages.proofs.newest.Statement.{statement}
 use Rattle.stages.proofs.newest.Tie as tie
 
 returns : tie.Need-returns
-returns c = rw (c .before .before .before .before .before .if1 .taken, c .before .before .before .before .if2 .taken, eq-eqb _ _ (c .before .if3 .taken))
+returns c =
+    let a = c .before .before .before .before .before .before .args in
+    taken (a .write) (a .from) (a .latched) (c .before .before .before .before .before .if1 .taken) (c .before .before .before .before .if2 .taken) (c .before .if3 .taken)
 
 returns-2 : tie.Need-returns-2
-returns-2 c = rw (c .before .before .before .before .if1 .taken, c .before .before .before .if2 .taken, ne-eqb _ _ (c .if3 .left))
+returns-2 c =
+    let a = c .before .before .before .before .before .args in
+    not-taken (a .write) (a .from) (a .latched) (c .before .before .before .before .if1 .taken) (c .before .before .before .if2 .taken) (c .if3 .left)
 
 returns-3 : tie.Need-returns-3
 returns-3 c = search needs

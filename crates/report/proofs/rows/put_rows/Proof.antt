@@ -7,11 +7,11 @@ use borrow.Author.Needs.{needs}
 use lib.ListN.{length}
 use Rattle.front.proofs.Parts.{at-end}
 use Rattle.front.specs.Front.{atFront}
-use Rattle.model.proofs.Made.{well-made-says}
+use Rattle.model.proofs.Made.{well-made-says, last-small}
 use Rattle.model.specs.Cycle.{cyclesOf}
 use Rattle.report.specs.Report.{rowsOf}
 use Rattle.stages.specs.Stages.{unitWith}
-use Rattle.unit.proofs.Loop.{none-yet, turn, more, last-small, read-in-range, write-in-range}
+use Rattle.unit.proofs.Loop.{none-yet, turn, more, read-in-range, write-in-range}
 use Rattle.report.proofs.Loop.{row-more}
 use Rattle.report.proofs.rows.put_rows.Statement.{statement}
 use Rattle.report.proofs.rows.put_rows.Tie as tie

@@ -4,10 +4,10 @@ use mathlib.Core.Logic.{⊎-elim}
 use mathlib.Core.Path.{_≡_, refl, _∙_}
 use native.Mathlib.Omega.{arith}
 use borrow.Author.Needs.{needs}
-use Rattle.model.proofs.Made.{well-made-says}
+use Rattle.model.proofs.Made.{well-made-says, last-small}
 use Rattle.model.specs.Cycle.{cyclesOf}
 use Rattle.stages.specs.Stages.{unitWith}
-use Rattle.unit.proofs.Loop.{none-yet, turn, more, last-small, read-in-range, write-in-range}
+use Rattle.unit.proofs.Loop.{none-yet, turn, more, read-in-range, write-in-range}
 use Rattle.unit.proofs.cycles.cycles.Statement.{statement}
 use Rattle.unit.proofs.cycles.cycles.Tie as tie
 
