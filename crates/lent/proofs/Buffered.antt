@@ -9,7 +9,7 @@ use lib.ListN.{length}
 use mir.Syntax.{Fn, Name, addrOf, aggregate, assign, call, copy, deref, erased, field, local, mut, named, place, return, rvOpd, seq, tyInt, tyRef, valueLocal, w64, w8}
 use mir.Val.{Val, vint, vptr}
 use base.Fml.{GName, Lft, Share, flft, ftrue}
-use base.Logic.{SProp, emp, ent, id⊢}
+use base.Logic.{SProp, ent, id⊢}
 use ghost.Atoms.{Atoms}
 use prog.Memory.{Memory}
 use prog.Routine.{Routine}
@@ -42,7 +42,7 @@ use Rattle.model.proofs.Unit as U
 use Rattle.model.proofs.Unit.Laws as U′
 use Rattle.lent.proofs.Handed.{Handed, handed-back, lent-type}
 use Rattle.lent.proofs.Steps.{asserts, freed, held, machine, opened, asserts, typed}
-use Rattle.lent.proofs.Thin.{Promise, Stated, Thin, promised, promising, walking}
+use Rattle.lent.proofs.Thin.{Promise, Stands, Stated, Thin, promised, promising, walking}
 
 module _ (X : Handed) where
   abbrev own : Ended
@@ -58,10 +58,9 @@ module _ (X : Handed) where
 
   -- the core's promise, the function's contract, and that the one gives what the other asks
   module _ (Said : Record → List ℕ → ℕ → X .whole-type .D → List ℕ → Type 0) (Says : Stated own)
-      (so : (M : Type 1) (𝓤 : URA M) (H : Heap 𝓤) (A : Atoms 𝓤) (mem : Memory → SProp 𝓤) (run : Routine → Fun 𝓤)
-      (κs : Lfts 2) (a : Args (own .signature) κs) (g : Says M 𝓤 H A mem run κs a .ghost) (r : X .whole-type .D) (after : List ℕ)
+      (so : (κs : Lfts 2) (a : Args (own .signature) κs) (r : X .whole-type .D) (after : List ℕ)
       → Said (now (a .0)) (now (a .1 .0)) (a .1 .1 .0) r after
-      → ent 𝓤 (emp 𝓤) (Says M 𝓤 H A mem run κs a .ensures g (X .answer r) (atExit own κs a (X .unit r, (after, (tt, tt)))))) where
+      → Stands own Says κs a (X .answer r) (atExit own κs a (X .unit r, (after, (tt, tt))))) where
     abbrev core : Ended
     core = record {
       signature = record {
@@ -136,7 +135,7 @@ module _ (X : Handed) where
         exits r after e l is =
             qed W (held κ q b o γ (X .unit r) ++ (Alive ∷ ‵ (finally u8 (buffer .name) after) ∷ [])) ∵
             suffices ! _ (ends-at 𝓤 H A own stayed c W (passed, g) (X .value r) (X .answer r) (X .unit r, (after, (tt, tt))) (tt, (l, (tt, tt)))) $
-            asserts ! (so M 𝓤 H A mem run (κ, (κ′, tt)) (passed .3) g r after e) $ move ! (2 ∷ 3 ∷ []) $ join ! $ frame ! $
+            asserts ! (so (κ, (κ′, tt)) (passed .3) r after e M 𝓤 H A mem run g) $ move ! (2 ∷ 3 ∷ []) $ join ! $ frame ! $
             feqI ! (List Val) (vptr b o ∷ []) (vptr b o ∷ []) refl $ fjoin3 ! $ nothing ! $ owned ! usize (Is usize) (uint-makes 𝓤 H A W w64) start _ start-is $ fjoin ! $
             move ! (2 ∷ 0 ∷ []) $ fjoin ! $ move ! (1 ∷ 0 ∷ []) $ fjoin ! $
             owned ! (X .answer-type) (Is (X .answer-type)) (X .makes 𝓤 H A W) (X .answer r) _ is $ move ! (1 ∷ 0 ∷ []) $ done !

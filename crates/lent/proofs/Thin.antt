@@ -31,6 +31,12 @@ Stated T = (M : Type 1) (𝓤 : URA M) (H : Heap 𝓤) → Atoms 𝓤 → (Memor
 abbrev pub triple : {M : Type 1} (𝓤 : URA M) (H : Heap 𝓤) (A : Atoms 𝓤) (T : Ended) → Clauses 𝓤 T → Contract 𝓤
 triple 𝓤 H A T c = tripleOf 𝓤 H A (T .signature) (closing 𝓤 H A T c)
 
+-- what the contract promises of an answer and of what was lent, at exit, holds
+abbrev pub Stands : (T : Ended) → Stated T → (κs : Lfts (T .signature .lifetimes)) → Args (T .signature) κs → Res (T .signature) κs → AtExit T κs → Type 2
+Stands T C κs a r s =
+    (M : Type 1) (𝓤 : URA M) (H : Heap 𝓤) (A : Atoms 𝓤) (mem : Memory → SProp 𝓤) (run : Routine → Fun 𝓤) (g : C M 𝓤 H A mem run κs a .ghost)
+    → ent 𝓤 (emp 𝓤) (C M 𝓤 H A mem run κs a .ensures g r s)
+
 -- a fact of the arguments, the answer and what was lent, at exit; and the contract that promises it and asks nothing
 abbrev pub Promise : Ended → Type 1
 Promise T = (κs : Lfts (T .signature .lifetimes)) → Args (T .signature) κs → Res (T .signature) κs → AtExit T κs → Type 0

@@ -17,5 +17,5 @@ pub cycle-with-row-spec : {M : Type 1} → statement M
 unfolding code.routine
 cycle-with-row-spec 𝓤 H 𝓜 𝓖 𝓡 =
     carried (buffered cycled (λ u buffer start r after. (r, after) ≡ tracedOf u start buffer) (λ M 𝓤 H. own.clauses 𝓤 H)
-    (λ M 𝓤 H A mem run κs a g r after e. factI 𝓤 _ (emp 𝓤) e)) 𝓤 H 𝓜 𝓖 𝓡
+    (λ κs a r after e M 𝓤 H A mem run g. factI 𝓤 _ (emp 𝓤) e)) 𝓤 H 𝓜 𝓖 𝓡
     code.env name core.name core.routine (code.unfolded 𝓤 H 𝓜 𝓡) code.calls-traced·cycle-with-row (met 𝓤 H 𝓜 𝓖 𝓡)

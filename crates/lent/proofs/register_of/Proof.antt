@@ -20,5 +20,5 @@ pub register-of-spec : {M : Type 1} → statement M
 unfolding code.routine
 register-of-spec 𝓤 H 𝓜 𝓖 𝓡 =
     carried (asked-one-more R.the-type R′.the-laws (number w64) (λ κs u k r. r ≡ registerOf u k) (λ M 𝓤 H. own.clauses 𝓤 H)
-    (λ M 𝓤 H A mem run κs a g r e. factI 𝓤 _ (emp 𝓤) e)) 𝓤 H 𝓜 𝓖 𝓡
+    (λ κs a r e M 𝓤 H A mem run g. factI 𝓤 _ (emp 𝓤) e)) 𝓤 H 𝓜 𝓖 𝓡
     code.env name core.name core.routine (code.unfolded 𝓤 H 𝓜 𝓡) code.calls-unit·register-of (met 𝓤 H 𝓜 𝓖 𝓡)
