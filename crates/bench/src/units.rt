@@ -177,7 +177,7 @@ fn with_a_full_latch() -> Unit {
     let n = u.n;
     let count = u.count;
     let registers = u.registers;
-    let fetched = IfId::Holds(stages::instruction(0xA1));
+    let fetched = IfId::Holds(fetch::instruction(0xA1));
     let decoded = u.decoded;
     let executed = u.executed;
     Unit {

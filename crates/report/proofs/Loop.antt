@@ -16,8 +16,9 @@ use Rattle.model.specs.declared.IfId.{IfId}
 use Rattle.model.specs.declared.Unit.{Unit}
 use Rattle.model.specs.Cycle.{cyclesOf}
 use Rattle.stages.specs.declared.Carried.{Carried}
-use Rattle.stages.specs.Stages.{unitWith, deliveredOf}
-use Rattle.stages.proofs.Laws.{deliver}
+use Rattle.fetch.specs.Fetch.{deliveredOf}
+use Rattle.fetch.proofs.Laws.{deliver}
+use Rattle.stages.specs.Stages.{unitWith}
 use Rattle.shown.specs.Says.{shownBy, shownOf}
 use Rattle.report.specs.Report.{rowsOf}
 use Rattle.report.proofs.Text.{rows-long}

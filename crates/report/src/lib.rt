@@ -13,10 +13,10 @@ use crate::lines::put_end;
 use crate::lines::put_refused;
 use crate::lines::refused_size;
 use crate::rows::put_rows;
+use fetch::last;
 use model::Unit;
 use printer::ROW_SIZE;
 use table::refusal;
-use wellmade::last;
 
 // How a text was put: 0 and its size, or the number that it is refused with.
 pub struct Reported {

@@ -25,7 +25,7 @@ pub(crate) fn put_rows(out: &mut [u8], u: Unit, m: u32)
         let start = ROW_SIZE * made as usize;
         made += 1;
         let executed = carried.executed;
-        let write = stages::written(executed);
+        let write = forward::written(executed);
         let at = write.at.0 as usize;
         let value = write.value;
         if write.writes {
@@ -44,7 +44,7 @@ pub(crate) fn put_rows(out: &mut [u8], u: Unit, m: u32)
         let here = (carried.count.0 % 64) as usize;
         let next = stages::advanced(n, carried, write, read, program[here]);
         let delivered = next.fetched;
-        let row = traced::shown(u.cycle + made, carried, delivered);
+        let row = says::shown(u.cycle + made, carried, delivered);
         printer::write_row(out, start, row);
         carried = next;
     }

@@ -1,19 +1,12 @@
--- The stages as functions on latches and registers, so that no register file and no program is handed on once a cycle. That together they are "One cycle"
--- is in proofs/Laws.antt.
+-- EX and ID as functions on latches and registers, and all of a cycle but its write, so that no register file and no program is handed on once a cycle.
+-- That they are those of "One cycle" is in proofs/Laws.antt.
 -- Assumes nothing.
 use Prim.Native.Nat.{ℕ, _+_}
-use mathlib.Core.Bool.{Bool, true, false, cond, _&&_}
 use mathlib.Core.List.{List}
-use lib.Dec.{eqb, ltb}
 use lib.ListN.{getD}
 use Rattle.register.specs.declared.Register.{Register}
 use Rattle.register.specs.Layout.{zeroRegister}
 use Rattle.table.specs.declared.Count.{Count}
-use Rattle.table.specs.declared.Pointer.{Pointer}
-use Rattle.table.specs.declared.Target.{Target}
-use Rattle.table.specs.declared.Target.the-variants.{None, To}
-use Rattle.table.specs.Operation.{takesFirst, takesSecond, takesThird}
-use Rattle.model.specs.declared.Instruction.{Instruction}
 use Rattle.model.specs.declared.Operands.{Operands}
 use Rattle.model.specs.declared.IfId.{IfId}
 use Rattle.model.specs.declared.IfId.the-variants as IF/ID
@@ -22,31 +15,14 @@ use Rattle.model.specs.declared.IdEx.the-variants as ID/EX
 use Rattle.model.specs.declared.ExWb.{ExWb}
 use Rattle.model.specs.declared.ExWb.the-variants as EX/WB
 use Rattle.model.specs.declared.Unit.{Unit}
-use Rattle.model.specs.Cycle.{instructionOf, readBy, worked, countAfter}
-use Rattle.stages.specs.declared.Write.{Write}
+use Rattle.model.specs.Cycle.{worked}
+use Rattle.fetch.specs.Fetch.{deliveredOf, nextCount}
+use Rattle.forward.specs.declared.Write.{Write}
+use Rattle.forward.specs.Forward.{newestOperandsBy}
 use Rattle.stages.specs.declared.Sources.{Sources}
 use Rattle.stages.specs.declared.Carried.{Carried}
 
--- what WB writes in a cycle, as one value: whether it writes, where and what
-abbrev pub writeTo : Target → Register → Write
-writeTo None v = record { writes = false; at = record { 0 = 0 }; value = v }
-writeTo (To p) v = record { writes = true; at = p; value = v }
-
-abbrev pub writeOf : ExWb → Write
-writeOf EX/WB.Empty = writeTo None zeroRegister
-writeOf (EX/WB.Holds i o) = writeTo (i .target) (o .value)
-
 -- EX, with what WB writes
-abbrev pub newestBy : Bool → Write → Pointer → Register → Register
-newestBy reads w p latched = cond (reads && (w .writes && eqb (w .at .0) (p .0))) (w .value) latched
-
-abbrev pub newestOperandsBy : Write → Instruction → Operands → Operands
-newestOperandsBy w i o = record {
-  first = newestBy (takesFirst (readBy i)) w (i .first) (o .first);
-  second = newestBy (takesSecond (readBy i)) w (i .second) (o .second);
-  third = newestBy (takesThird (readBy i)) w (i .third) (o .third);
-}
-
 abbrev pub executedBy : Write → IdEx → ExWb
 executedBy w ID/EX.Empty = EX/WB.Empty
 executedBy w (ID/EX.Holds i o) = worked i (newestOperandsBy w i o)
@@ -66,13 +42,6 @@ readAt s f = record {
 abbrev pub decodedWith : IfId → Operands → IdEx
 decodedWith IF/ID.Empty o = ID/EX.Empty
 decodedWith (IF/ID.Holds i) o = ID/EX.Holds i o
-
--- IF, with the word at the count
-abbrev pub deliveredOf : Count → Count → ℕ → IfId
-deliveredOf n k w = cond (ltb (k .0) (n .0)) (IF/ID.Holds (instructionOf w)) IF/ID.Empty
-
-abbrev pub nextCount : Count → Count → Count
-nextCount n k = record { 0 = countAfter (n .0) (k .0) }
 
 -- what a cycle carries to the next one beside the registers: the count and the latches
 abbrev pub carriedOf : Unit → Carried

@@ -1,10 +1,10 @@
-// The stages of one cycle, on latches and registers: what WB writes, what EX makes of it, what ID latches, what IF delivers.
+// EX and ID on latches and registers, and all of a cycle but its write.
 
 ghost use mathlib.Core.Path.{_≡_};
-ghost use Rattle.table.specs.Operation.{takesFirst, takesSecond, takesThird};
-ghost use Rattle.model.specs.Cycle.{instructionOf, worked};
-ghost use Rattle.stages.specs.Stages.{writeTo, writeOf, newestBy, newestOperandsBy, executedBy, sourcesOf, decodedWith, deliveredOf, nextCount, carriedOf, advancedOf};
+ghost use Rattle.model.specs.Cycle.{worked};
+ghost use Rattle.stages.specs.Stages.{executedBy, sourcesOf, decodedWith, carriedOf, advancedOf};
 use alu::gives;
+use forward::Write;
 use model::ExWb;
 use model::IdEx;
 use model::IfId;
@@ -12,21 +12,8 @@ use model::Instruction;
 use model::Operands;
 use model::Outcome;
 use model::Unit;
-use register::Register;
 use table::Count;
 use table::Pointer;
-use table::Reads;
-use table::Target;
-use table::fields;
-use table::operands;
-use table::writes;
-
-// What WB writes in a cycle.
-pub struct Write {
-    pub writes: bool,
-    pub at: Pointer,
-    pub value: Register,
-}
 
 // What a cycle carries to the next one beside the registers.
 pub struct Carried {
@@ -43,107 +30,6 @@ pub struct Sources {
     pub third: Pointer,
 }
 
-pub fn instruction(word: u32) -> Instruction
-    ensures { λ r. ⌜ r ≡ instructionOf word ⌝ }
-{
-    Instruction {
-        word: word,
-        first: fields::first(word),
-        second: fields::rs2(word),
-        third: fields::rs3(word),
-        target: writes::target_of(word),
-    }
-}
-
-fn write_to(target: Target, value: Register) -> Write
-    ensures { λ r. ⌜ r ≡ writeTo target value ⌝ }
-{
-    match target {
-        Target::None => Write {
-            writes: false,
-            at: Pointer(0),
-            value: value,
-        },
-        Target::To(at) => Write {
-            writes: true,
-            at: at,
-            value: value,
-        },
-    }
-}
-
-pub fn written(latch: ExWb) -> Write
-    ensures { λ r. ⌜ r ≡ writeOf latch ⌝ }
-{
-    match latch {
-        ExWb::Empty => write_to(Target::None, Register::ZERO),
-        ExWb::Holds(i, o) => {
-            let target = i.target;
-            write_to(target, o.value)
-        }
-    }
-}
-
-fn takes_first(reads: Reads) -> bool
-    ensures { λ r. ⌜ r ≡ takesFirst reads ⌝ }
-{
-    match reads {
-        Reads::Nothing => false,
-        Reads::Rs1 => true,
-        Reads::Rs1Rs2 => true,
-        Reads::Rs1Rs2Rs3 => true,
-        Reads::Rd => true,
-    }
-}
-
-pub fn takes_second(reads: Reads) -> bool
-    ensures { λ r. ⌜ r ≡ takesSecond reads ⌝ }
-{
-    match reads {
-        Reads::Nothing => false,
-        Reads::Rs1 => false,
-        Reads::Rs1Rs2 => true,
-        Reads::Rs1Rs2Rs3 => true,
-        Reads::Rd => false,
-    }
-}
-
-pub fn takes_third(reads: Reads) -> bool
-    ensures { λ r. ⌜ r ≡ takesThird reads ⌝ }
-{
-    match reads {
-        Reads::Nothing => false,
-        Reads::Rs1 => false,
-        Reads::Rs1Rs2 => false,
-        Reads::Rs1Rs2Rs3 => true,
-        Reads::Rd => false,
-    }
-}
-
-fn newest(reads: bool, write: Write, from: Pointer, latched: Register) -> Register
-    ensures { λ r. ⌜ r ≡ newestBy reads write from latched ⌝ }
-{
-    if reads {
-        if write.writes {
-            if write.at.0 == from.0 {
-                return write.value;
-            }
-        }
-    }
-    latched
-}
-
-fn newest_operands(write: Write, i: Instruction, o: Operands) -> Operands
-    ensures { λ r. ⌜ r ≡ newestOperandsBy write i o ⌝ }
-{
-    let reads = operands::reads(i.word);
-    Operands {
-        first: newest(takes_first(reads), write, i.first, o.first),
-        second: newest(takes_second(reads), write, i.second, o.second),
-        third: newest(takes_third(reads), write, i.third, o.third),
-    }
-}
-
 fn work(i: Instruction, o: Operands) -> ExWb
     ensures { λ r. ⌜ r ≡ worked i o ⌝ }
 {
@@ -156,7 +42,7 @@ pub fn executed(write: Write, latch: IdEx) -> ExWb
 {
     match latch {
         IdEx::Empty => ExWb::Empty,
-        IdEx::Holds(i, o) => work(i, newest_operands(write, i, o)),
+        IdEx::Holds(i, o) => work(i, forward::newest_operands(write, i, o)),
     }
 }
 
@@ -191,24 +77,6 @@ pub fn decoded(latch: IfId, read: Operands) -> IdEx
     }
 }
 
-pub fn delivered(n: Count, count: Count, word: u32) -> IfId
-    ensures { λ r. ⌜ r ≡ deliveredOf n count word ⌝ }
-{
-    if count.0 < n.0 {
-        return IfId::Holds(instruction(word));
-    }
-    IfId::Empty
-}
-
-pub fn next_count(n: Count, count: Count) -> Count
-    ensures { λ r. ⌜ r ≡ nextCount n count ⌝ }
-{
-    if n.0 > count.0 {
-        return Count(count.0 + 1);
-    }
-    count
-}
-
 pub fn carried_in(u: Unit) -> Carried
     ensures { λ r. ⌜ r ≡ carriedOf u ⌝ }
 {
@@ -232,8 +100,8 @@ pub fn advanced(n: Count, carried: Carried, write: Write, read: Operands, word: 
     let fetched = carried.fetched;
     let decoding = carried.decoded;
     Carried {
-        count: next_count(n, count),
-        fetched: delivered(n, count, word),
+        count: fetch::next_count(n, count),
+        fetched: fetch::delivered(n, count, word),
         decoded: decoded(fetched, read),
         executed: executed(write, decoding),
     }

@@ -1,17 +1,12 @@
--- For every public function: no second answer and no second buffer fits its contract, since the contract is one equation of both.
+-- For the public function: no second answer and no second buffer fits its contract, since the contract is one equation of both.
 -- Assumes nothing.
 use Prim.Native.Nat.{ℕ}
 use mathlib.Core.Path.{refl, sym, ap, _∙_}
 use mathlib.Core.List.{List}
 use Rattle.determined.specs.Determined.{Determined}
 use Rattle.model.specs.declared.Cycled.{Cycled}
-use Rattle.traced.proofs.shown.Kinds as shown-kinds
-use Rattle.traced.proofs.shown.Reads as shown-reads
 use Rattle.traced.proofs.cycle_with_row.Kinds as cycle-with-row-kinds
 use Rattle.traced.proofs.cycle_with_row.Reads as cycle-with-row-reads
-
-pub shown-unique : Determined 0 shown-kinds.ps shown-kinds.r shown-reads.Post
-shown-unique κs a x y v w p q = (p ∙ sym q, refl)
 
 pub cycle-with-row-unique : Determined 1 cycle-with-row-kinds.ps cycle-with-row-kinds.r cycle-with-row-reads.Post
 cycle-with-row-unique κs a x y v w p q =

@@ -1,4 +1,4 @@
--- The loop over cycles: its locals, put together, are the unit after so many cycles. Carried by the laws of `stages`, a turn at a time; the indices are in range
+-- The loop over cycles: its locals, put together, are the unit after so many cycles. Carried by the laws of the stages, a turn at a time; the indices are in range
 -- because a well-made unit's latches hold instructions of its program.
 -- Assumes nothing.
 use Prim.Native.Nat.{ℕ, _+_, _-_, _%_, _≤_, _<_}
@@ -25,11 +25,14 @@ use Rattle.model.specs.Cycle.{instructionOf, afterWB, afterID, afterIF, cycleOf
 use Rattle.model.specs.Record.{inExecuted, heldOf, wellMadeOf}
 use Rattle.model.proofs.Control.{Placed, placed-cycles}
 use Rattle.model.proofs.Made.{well-made-says}
+use Rattle.forward.specs.declared.Write.{Write}
+use Rattle.forward.specs.Forward.{writeTo, writeOf}
+use Rattle.forward.proofs.Laws.{write-back}
+use Rattle.fetch.proofs.Laws.{deliver}
 use Rattle.stages.specs.declared.Carried.{Carried}
-use Rattle.stages.specs.declared.Write.{Write}
 use Rattle.stages.specs.declared.Sources.{Sources}
-use Rattle.stages.specs.Stages.{writeTo, writeOf, sourcesOf, readAt, decodedWith, carriedOf, unitWith, advancedOf}
-use Rattle.stages.proofs.Laws.{write-back, execute, decode, deliver}
+use Rattle.stages.specs.Stages.{sourcesOf, readAt, decodedWith, carriedOf, unitWith, advancedOf}
+use Rattle.stages.proofs.Laws.{execute, decode}
 
 -- a turn: what the stages are called for, one after another
 pub turn : (u : Unit) {g : List Register} {l : Carried} {w : Write} {v : Sources}

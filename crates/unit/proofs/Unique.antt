@@ -6,19 +6,9 @@ use Rattle.unit.proofs.cycle.Kinds as cycle-kinds
 use Rattle.unit.proofs.cycle.Reads as cycle-reads
 use Rattle.unit.proofs.run.Kinds as run-kinds
 use Rattle.unit.proofs.run.Reads as run-reads
-use Rattle.unit.proofs.register_of.Kinds as register-of-kinds
-use Rattle.unit.proofs.register_of.Reads as register-of-reads
-use Rattle.unit.proofs.drained.Kinds as drained-kinds
-use Rattle.unit.proofs.drained.Reads as drained-reads
 
 pub cycle-unique : Determined 0 cycle-kinds.ps cycle-kinds.r cycle-reads.Post
 cycle-unique κs a x y v w p q = (p ∙ sym q, refl)
 
 pub run-unique : Determined 0 run-kinds.ps run-kinds.r run-reads.Post
 run-unique κs a x y v w p q = (p ∙ sym q, refl)
-
-pub register-of-unique : Determined 0 register-of-kinds.ps register-of-kinds.r register-of-reads.Post
-register-of-unique κs a x y v w p q = (p ∙ sym q, refl)
-
-pub drained-unique : Determined 0 drained-kinds.ps drained-kinds.r drained-reads.Post
-drained-unique κs a x y v w p q = (p ∙ sym q, refl)

@@ -55,7 +55,7 @@ pub(crate) fn cycles(u: Unit, m: u32) -> Unit
     let mut made: u32 = 0;
     while made < m {
         made += 1;
-        let write = stages::written(executed);
+        let write = forward::written(executed);
         let at = write.at.0 as usize;
         let value = write.value;
         if write.writes {
@@ -73,8 +73,8 @@ pub(crate) fn cycles(u: Unit, m: u32) -> Unit
         };
         let here = (count.0 % 64) as usize;
         decoded = stages::decoded(fetched, read);
-        fetched = stages::delivered(n, count, program[here]);
-        count = stages::next_count(n, count);
+        fetched = fetch::delivered(n, count, program[here]);
+        count = fetch::next_count(n, count);
     }
     gone_on(u, m, registers, count, fetched, decoded, executed)
 }

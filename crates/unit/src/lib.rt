@@ -1,23 +1,22 @@
 // The calls on a unit, by value: a unit goes in and comes back, and on a refusal it comes back as it was given.
 
 ghost use mathlib.Core.Path.{_≡_};
-ghost use Rattle.model.specs.Calls.{cycledOf, ranOf, registerOf, askedDrained};
+ghost use Rattle.model.specs.Calls.{cycledOf, ranOf};
 
 mod cycles;
 
 use crate::cycles::cycles;
+pub use asking::drained;
+pub use asking::register_of;
+use fetch::last;
+use fetch::lesser;
 use model::Cycled;
-use model::Drained;
-use model::Held;
 use model::Ran;
 use model::Unit;
-use register::Register;
 pub use starting::fresh;
 pub use starting::start;
 use table::refusal;
 use wellmade::is_drained;
-use wellmade::last;
-use wellmade::lesser;
 use wellmade::well_made;
 
 pub fn cycle(u: Unit) -> Cycled
@@ -60,43 +59,5 @@ pub fn run(u: Unit, budget: u32) -> Ran
         refusal: refusal::STATE,
         made: 0,
         unit: u,
-    }
-}
-
-pub fn register_of(u: Unit, number: usize) -> Held
-    ensures { λ r. ⌜ r ≡ registerOf u number ⌝ }
-{
-    if well_made(u) {
-        if number > 31 {
-            return Held {
-                refusal: refusal::POINTER,
-                register: Register::ZERO,
-            };
-        }
-        let registers = u.registers;
-        return Held {
-            refusal: 0,
-            register: registers[number],
-        };
-    }
-    Held {
-        refusal: refusal::STATE,
-        register: Register::ZERO,
-    }
-}
-
-pub fn drained(u: Unit) -> Drained
-    ensures { λ r. ⌜ r ≡ askedDrained u ⌝ }
-{
-    if well_made(u) {
-        let yes = is_drained(u);
-        return Drained {
-            refusal: 0,
-            drained: yes,
-        };
-    }
-    Drained {
-        refusal: refusal::STATE,
-        drained: false,
     }
 }

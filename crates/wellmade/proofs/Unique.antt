@@ -2,20 +2,10 @@
 -- Assumes nothing.
 use mathlib.Core.Path.{refl, sym, _∙_}
 use Rattle.determined.specs.Determined.{Determined}
-use Rattle.wellmade.proofs.lesser.Kinds as lesser-kinds
-use Rattle.wellmade.proofs.lesser.Reads as lesser-reads
-use Rattle.wellmade.proofs.last.Kinds as last-kinds
-use Rattle.wellmade.proofs.last.Reads as last-reads
 use Rattle.wellmade.proofs.well_made.Kinds as well-made-kinds
 use Rattle.wellmade.proofs.well_made.Reads as well-made-reads
 use Rattle.wellmade.proofs.is_drained.Kinds as is-drained-kinds
 use Rattle.wellmade.proofs.is_drained.Reads as is-drained-reads
-
-pub lesser-unique : Determined 0 lesser-kinds.ps lesser-kinds.r lesser-reads.Post
-lesser-unique κs a x y v w p q = (p ∙ sym q, refl)
-
-pub last-unique : Determined 0 last-kinds.ps last-kinds.r last-reads.Post
-last-unique κs a x y v w p q = (p ∙ sym q, refl)
 
 pub well-made-unique : Determined 0 well-made-kinds.ps well-made-kinds.r well-made-reads.Post
 well-made-unique κs a x y v w p q = (p ∙ sym q, refl)

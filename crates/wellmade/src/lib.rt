@@ -1,33 +1,16 @@
 // Whether a unit's record is well made, and whether the unit is drained.
 
-ghost use Prim.Native.Nat.{_≤_, min};
+ghost use Prim.Native.Nat.{_≤_};
 ghost use mathlib.Core.Path.{_≡_};
 ghost use mathlib.Core.Bool.{_&&_};
 ghost use lib.ListN.{length};
-ghost use Rattle.model.specs.Record.{drainedOf, lastOf, heldOf, sameHeld, wellMadeOf};
+ghost use Rattle.model.specs.Record.{drainedOf, heldOf, sameHeld, wellMadeOf};
+use fetch::last;
+use fetch::lesser;
 use model::IfId;
 use model::Unit;
 use table::Count;
 use table::refusal;
-
-pub fn lesser(a: u32, b: u32) -> u32
-    ensures { λ r. ⌜ r ≡ min a b ⌝ }
-{
-    if a < b {
-        return a;
-    }
-    b
-}
-
-// The cycle number at which a program of n lines is drained.
-pub fn last(n: Count) -> u32
-    ensures { λ r. ⌜ r ≡ lastOf (n .0) ⌝ }
-{
-    if n.0 == 0 {
-        return 0;
-    }
-    n.0 as u32 + 3
-}
 
 // Instruction c - k, or nothing outside 0 .. n - 1.
 fn should_hold(program: &[u32], n: Count, k: u32, c: u32) -> IfId
@@ -39,7 +22,7 @@ fn should_hold(program: &[u32], n: Count, k: u32, c: u32) -> IfId
     }
     let line = (c - k) as usize;
     if line < n.0 as usize {
-        return IfId::Holds(stages::instruction(program[line]));
+        return IfId::Holds(fetch::instruction(program[line]));
     }
     IfId::Empty
 }

@@ -5,8 +5,8 @@ use contract.Monad.{factI}
 use Rattle.model.specs.Calls.{askedDrained}
 use Rattle.model.proofs.Drained as D
 use Rattle.model.proofs.Drained.Laws as D′
-use Rattle.unit.proofs.drained.Met.{met}
-use Rattle.unit.proofs.drained.Symbol as core
+use Rattle.asking.proofs.drained.Met.{met}
+use Rattle.asking.proofs.drained.Symbol as core
 use Rattle.lent.proofs.AskedAlone.{asked-alone}
 use Rattle.lent.proofs.Thin.{carried}
 use Rattle.lent.proofs.drained as own

@@ -6,8 +6,8 @@ use contract.Monad.{factI}
 use Rattle.model.specs.Calls.{registerOf}
 use Rattle.model.proofs.Held as R
 use Rattle.model.proofs.Held.Laws as R′
-use Rattle.unit.proofs.register_of.Met.{met}
-use Rattle.unit.proofs.register_of.Symbol as core
+use Rattle.asking.proofs.register_of.Met.{met}
+use Rattle.asking.proofs.register_of.Symbol as core
 use Rattle.lent.proofs.AskedOneMore.{asked-one-more}
 use Rattle.lent.proofs.Beside.{number}
 use Rattle.lent.proofs.Thin.{carried}
