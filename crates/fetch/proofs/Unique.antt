@@ -8,10 +8,6 @@ use Rattle.fetch.proofs.delivered.Kinds as delivered-kinds
 use Rattle.fetch.proofs.delivered.Reads as delivered-reads
 use Rattle.fetch.proofs.next_count.Kinds as next-count-kinds
 use Rattle.fetch.proofs.next_count.Reads as next-count-reads
-use Rattle.fetch.proofs.lesser.Kinds as lesser-kinds
-use Rattle.fetch.proofs.lesser.Reads as lesser-reads
-use Rattle.fetch.proofs.last.Kinds as last-kinds
-use Rattle.fetch.proofs.last.Reads as last-reads
 
 pub instruction-unique : Determined 0 instruction-kinds.ps instruction-kinds.r instruction-reads.Post
 instruction-unique κs a x y v w p q = (p ∙ sym q, refl)
@@ -21,9 +17,3 @@ delivered-unique κs a x y v w p q = (p ∙ sym q, refl)
 
 pub next-count-unique : Determined 0 next-count-kinds.ps next-count-kinds.r next-count-reads.Post
 next-count-unique κs a x y v w p q = (p ∙ sym q, refl)
-
-pub lesser-unique : Determined 0 lesser-kinds.ps lesser-kinds.r lesser-reads.Post
-lesser-unique κs a x y v w p q = (p ∙ sym q, refl)
-
-pub last-unique : Determined 0 last-kinds.ps last-kinds.r last-reads.Post
-last-unique κs a x y v w p q = (p ∙ sym q, refl)

@@ -1,9 +1,7 @@
-// IF: the instruction of a word, what is delivered and the count afterwards; and how long a program keeps the unit at work.
+// IF: the instruction of a word, what is delivered and the count afterwards.
 
-ghost use Prim.Native.Nat.{min};
 ghost use mathlib.Core.Path.{_≡_};
 ghost use Rattle.model.specs.Cycle.{instructionOf};
-ghost use Rattle.model.specs.Record.{lastOf};
 ghost use Rattle.fetch.specs.Fetch.{deliveredOf, nextCount};
 use model::IfId;
 use model::Instruction;
@@ -39,23 +37,4 @@ pub fn next_count(n: Count, count: Count) -> Count
         return Count(count.0 + 1);
     }
     count
-}
-
-pub fn lesser(a: u32, b: u32) -> u32
-    ensures { λ r. ⌜ r ≡ min a b ⌝ }
-{
-    if a < b {
-        return a;
-    }
-    b
-}
-
-// The cycle number at which a program of n lines is drained.
-pub fn last(n: Count) -> u32
-    ensures { λ r. ⌜ r ≡ lastOf (n .0) ⌝ }
-{
-    if n.0 == 0 {
-        return 0;
-    }
-    n.0 as u32 + 3
 }

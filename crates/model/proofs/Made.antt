@@ -84,7 +84,7 @@ pub well-made-says : (u : Unit) → wellMadeOf u ≡ true → WellMade u
 unfolding wellMadeOf
 well-made-says u e =
     let n = u .n .0 in
-    let split = both (numbersMade u) (latchesMade u) e in
+    let split = both (numbersMade (u .program) (u .n .0) (u .count .0) (u .cycle)) (latchesMade u) e in
     let a = both _ (eqb (u .count .0) (min (u .cycle) n)) (split .0) in
     let b = both _ (leb (u .cycle) (lastOf n)) (a .0) in
     let c = both (leb n 64) (leb n (firstBad (take n (u .program)))) (b .0) in

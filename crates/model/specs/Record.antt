@@ -65,12 +65,8 @@ sameHeld (IF/ID.Holds i) IF/ID.Empty = false
 sameHeld (IF/ID.Holds i) (IF/ID.Holds j) = sameInstruction i j
 
 -- "n is at most 64, its n words are below 2^25, the cycle number c is at most n+3 (0 when n is 0), the count is the smaller of c and n"
-abbrev pub numbersMade : Unit → Bool
-numbersMade u =
-    leb (u .n .0) 64
-    && leb (u .n .0) (firstBad (take (u .n .0) (u .program)))
-    && leb (u .cycle) (lastOf (u .n .0))
-    && eqb (u .count .0) (min (u .cycle) (u .n .0))
+abbrev pub numbersMade : List ℕ → ℕ → ℕ → ℕ → Bool
+numbersMade program n count c = leb n 64 && leb n (firstBad (take n program)) && leb c (lastOf n) && eqb count (min c n)
 
 -- "and the latches hold instructions c-1, c-2 and c-3, or nothing outside 0 .. n-1"
 abbrev pub latchesMade : Unit → Bool
@@ -80,4 +76,4 @@ latchesMade u =
     && sameHeld (inExecuted (u .executed)) (heldOf (u .program) (u .n .0) 3 (u .cycle))
 
 unfoldable pub wellMadeOf : Unit → Bool
-wellMadeOf u = numbersMade u && latchesMade u
+wellMadeOf u = numbersMade (u .program) (u .n .0) (u .count .0) (u .cycle) && latchesMade u

@@ -13,7 +13,7 @@ use crate::lines::put_end;
 use crate::lines::put_refused;
 use crate::lines::refused_size;
 use crate::rows::put_rows;
-use fetch::last;
+use counts::last;
 use model::Unit;
 use printer::ROW_SIZE;
 use table::refusal;

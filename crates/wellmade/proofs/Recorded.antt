@@ -1,19 +1,20 @@
 -- The tests of a record in their order, each as it came out. Carried by rewriting with each test.
 -- Assumes nothing.
-use Prim.Native.Nat.{ℕ, _-_, _<_, _≤_, min}
-use mathlib.Core.Path.{_≡_, sym, ap, _∙_}
-use mathlib.Core.Bool.{Bool, true, false, _&&_}
+use Prim.Native.Nat.{ℕ, _-_, _<_, _≤_}
+use mathlib.Core.Path.{_≡_, refl, sym, ap, _∙_}
+use mathlib.Core.Bool.{Bool, true, false, _&&_, false≢true}
 use mathlib.Core.List.{List, map, map-id}
 use native.Mathlib.Omega.{arith}
-use borrow.Author.Tests.{lt-ltb, le-ltb, le-leb, lt-leb, eq-eqb, ne-eqb}
-use lib.ListN.{length, getD, take}
-use Rattle.table.specs.Refusal.{firstBad}
+use borrow.Author.Tests.{lt-ltb, le-ltb, le-leb, lt-leb, leb-true, leb-false}
+use lib.Dec.{leb}
+use lib.ListN.{length, getD}
 use Rattle.model.specs.declared.Instruction.{Instruction}
 use Rattle.model.specs.declared.IfId.{IfId}
 use Rattle.model.specs.declared.IfId.the-variants as IF/ID
 use Rattle.model.specs.declared.Unit.{Unit}
 use Rattle.model.specs.Cycle.{instructionOf}
-use Rattle.model.specs.Record.{inDecoded, inExecuted, isEmpty, drainedOf, lastOf, heldOf, sameHeld, wellMadeOf}
+use Rattle.model.specs.Record.{inDecoded, inExecuted, isEmpty, drainedOf, heldOf, sameHeld, numbersMade, wellMadeOf}
+use Rattle.counts.proofs.Tested.{too-many-lines}
 
 -- a number up to the size of an array that is a field
 pub within : (l : List ℕ) (i n : ℕ) → length (map (λ (x : ℕ). x) l) ≡ n → i ≤ n → i ≤ length l
@@ -47,34 +48,27 @@ module _ (x y z f d e : IfId) {x′ : IfId} (first : x′ ≡ x) {s : Bool} (sam
 
 -- ---- a record
 
-module _ (u : Unit) where
-  pub too-many-lines : 64 < u .n .0 → false ≡ wellMadeOf u
+-- a test that came out true leaves at most 64 lines, all of them in the program's array
+pub lines-within : (l : List ℕ) (n count c : ℕ) {t : Bool} → length (map (λ (x : ℕ). x) l) ≡ 64 → t ≡ numbersMade l n count c → t ≡ true → n ≤ length l
+lines-within l n count c size test h =
+    within l n 64 size (go (leb n 64) refl)
+  where
+    go : (b : Bool) → leb n 64 ≡ b → n ≤ 64
+    go true q = leb-true n 64 q
+    go false q = absurd (false≢true (too-many-lines l n count c (leb-false n 64 q) ∙ sym test ∙ h))
+
+module _ (u : Unit) {t : Bool} (numbers : t ≡ numbersMade (u .program) (u .n .0) (u .count .0) (u .cycle)) where
+  pub other-numbers : t ≡ false → false ≡ wellMadeOf u
   unfolding wellMadeOf
-  too-many-lines h = rw (lt-leb _ _ h)
+  other-numbers h = rw (← numbers, h)
 
-  module _ (few : u .n .0 ≤ 64) {bad : ℕ} (first : bad ≡ firstBad (take (u .n .0) (u .program))) where
-    pub bad-word : bad < u .n .0 → false ≡ wellMadeOf u
-    unfolding wellMadeOf
-    bad-word h = rw (le-leb _ _ few, ← first, lt-leb _ _ h)
-
-    module _ (good : u .n .0 ≤ bad) {end : ℕ} (last : end ≡ lastOf (u .n .0)) where
-      pub beyond-last : end < u .cycle → false ≡ wellMadeOf u
-      unfolding wellMadeOf
-      beyond-last h = rw (le-leb _ _ few, ← first, le-leb _ _ good, ← last, lt-leb _ _ h)
-
-      module _ (reached : u .cycle ≤ end) {smaller : ℕ} (lesser : smaller ≡ min (u .cycle) (u .n .0)) where
-        pub other-count : (u .count .0 ≡ smaller → ⊥) → false ≡ wellMadeOf u
-        unfolding wellMadeOf
-        other-count h = rw (le-leb _ _ few, ← first, le-leb _ _ good, ← last, le-leb _ _ reached, ← lesser, ne-eqb _ _ h)
-
-        pub latches-decide : u .count .0 ≡ smaller → {d e : IfId} → d ≡ inDecoded (u .decoded) → e ≡ inExecuted (u .executed)
-            → {t : Bool}
-            → t ≡ (sameHeld (u .fetched) (heldOf (u .program) (u .n .0) 1 (u .cycle)) && sameHeld d (heldOf (u .program) (u .n .0) 2 (u .cycle))
-            && sameHeld e (heldOf (u .program) (u .n .0) 3 (u .cycle)))
-            → t ≡ wellMadeOf u
-        unfolding wellMadeOf
-        latches-decide h decoded executed o =
-            rw (le-leb _ _ few, ← first, le-leb _ _ good, ← last, le-leb _ _ reached, ← lesser, eq-eqb _ _ h, ← decoded, ← executed) o
+  pub latches-decide : t ≡ true → {d e : IfId} → d ≡ inDecoded (u .decoded) → e ≡ inExecuted (u .executed)
+      → {s : Bool}
+      → s ≡ (sameHeld (u .fetched) (heldOf (u .program) (u .n .0) 1 (u .cycle)) && sameHeld d (heldOf (u .program) (u .n .0) 2 (u .cycle))
+      && sameHeld e (heldOf (u .program) (u .n .0) 3 (u .cycle)))
+      → s ≡ wellMadeOf u
+  unfolding wellMadeOf
+  latches-decide h decoded executed o = rw (← numbers, h, ← decoded, ← executed) o
 
 -- ---- drained
 

@@ -5,12 +5,9 @@ ghost use mathlib.Core.Path.{_≡_};
 ghost use mathlib.Core.Bool.{_&&_};
 ghost use lib.ListN.{length};
 ghost use Rattle.model.specs.Record.{drainedOf, heldOf, sameHeld, wellMadeOf};
-use fetch::last;
-use fetch::lesser;
 use model::IfId;
 use model::Unit;
 use table::Count;
-use table::refusal;
 
 // Instruction c - k, or nothing outside 0 .. n - 1.
 fn should_hold(program: &[u32], n: Count, k: u32, c: u32) -> IfId
@@ -49,34 +46,23 @@ fn latches_made(
 pub fn well_made(u: Unit) -> bool
     ensures { λ r. ⌜ r ≡ wellMadeOf u ⌝ }
 {
-    let n = u.n;
-    let lines = n.0 as usize;
-    if lines > 64 {
-        return false;
-    }
     let program = u.program;
-    if refusal::first_bad(&program[..lines]) < lines {
-        return false;
-    }
-    if last(n) < u.cycle {
-        return false;
-    }
+    let n = u.n;
     let count = u.count;
-    let smaller = lesser(u.cycle, n.0 as u32);
-    if count.0 as u32 != smaller {
-        return false;
+    if counts::numbers_made(program, n, count, u.cycle) {
+        let fetched = u.fetched;
+        let decoded = u.decoded;
+        let executed = u.executed;
+        return latches_made(
+            &program,
+            n,
+            u.cycle,
+            fetched,
+            latches::in_decoded(decoded),
+            latches::in_executed(executed),
+        );
     }
-    let fetched = u.fetched;
-    let decoded = u.decoded;
-    let executed = u.executed;
-    latches_made(
-        &program,
-        n,
-        u.cycle,
-        fetched,
-        latches::in_decoded(decoded),
-        latches::in_executed(executed),
-    )
+    false
 }
 
 pub fn is_drained(u: Unit) -> bool

@@ -1,8 +1,8 @@
 -- Carried by the test alone.
 use borrow.Author.Tests.{eq-eqb, ne-eqb}
 use borrow.Author.Needs.{needs}
-use Rattle.fetch.proofs.last.Statement.{statement}
-use Rattle.fetch.proofs.last.Tie as tie
+use Rattle.counts.proofs.last.Statement.{statement}
+use Rattle.counts.proofs.last.Tie as tie
 
 returns : tie.Need-returns
 returns c = rw (eq-eqb _ _ (c .if1 .taken))
