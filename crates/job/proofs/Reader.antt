@@ -16,9 +16,9 @@ use Rattle.job.specs.declared.ReadJob.{ReadJob}
 use Rattle.job.specs.declared.Written.{Written}
 use Rattle.job.specs.Layout.{Bytes, instructionsAt, LARGEST, registersAt, sizeOf, registerCount, encode, twoAt, wordsIn, registersOf}
 use Rattle.job.specs.Read.{filled, jobOf, acceptedOf, readOf}
-use Rattle.job.specs.Write.{writtenOf, writeOf, programOf, registerBytesOf}
+use Rattle.job.specs.Write.{writtenOf, askedOf, writeOf, programOf, registerBytesOf}
 use Rattle.job.proofs.Pieces.{job-size}
-use Rattle.job.proofs.Tests.{accepts, written, accepted}
+use Rattle.job.proofs.Tests.{not-written, accepts, written, accepted}
 use Rattle.job.proofs.RoundTrip.{says-n, says-words, says-bytes, read-encoded, file-again, bytes-again, accepts-again}
 
 -- ---- both ways
@@ -89,6 +89,11 @@ accepted-exactly l b = (gives, given)
         ∙ ap (λ (m : List ℕ). readOf instructionsAt m .refusal) (take-append-seam l (drop (length l) l)))
         ∙ ap (λ (v : ReadJob). v .refusal) (read-written (w .0) (w .1) l (ap (λ (x : Written × List ℕ). x .0 .refusal) e))
 
+-- "buffers stay unaltered" by a writer that refuses.
+pub refused-unaltered : (words bytes out : List ℕ) → (writeOf instructionsAt words bytes out .0 .refusal ≡ 0 → ⊥) → writeOf instructionsAt words bytes out .1 ≡ out
+unfolding writeOf
+refused-unaltered words bytes out h = ap (λ (w : Written × List ℕ). w .1) (sym (not-written instructionsAt words bytes out refl h))
+
 -- ---- sizes
 
 -- "at most 776": no accepted file is larger, and one of 64 words and 32 registers is as large.
@@ -98,7 +103,7 @@ never-larger l e =
     omega (arith, t .few, t .fewer, t .right-size)
 
 pub largest-written : writeOf instructionsAt (replicate 64 0) (replicate 512 0) (replicate LARGEST 0) .0 ≡ writtenOf 0 0 LARGEST
-unfolding writeOf encode flatMap firstBad
+unfolding askedOf writeOf encode flatMap firstBad
 largest-written = refl
 
 -- "The whole is exactly 8+4n+16r bytes": what the writer answers as the size.

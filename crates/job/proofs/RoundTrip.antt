@@ -179,7 +179,7 @@ module _ (l : List ℕ) (b : Bytes l) (a : Accepted instructionsAt l) where
   bytes-again = subst Bytes (sym (handed-bytes ∙ registers-back)) (bytes-behind (registersAt instructionsAt n) l b)
 
   pub accepts-again : (out : List ℕ) → length l ≤ length out
-      → Accepts instructionsAt (programOf (readOf instructionsAt l .job)) (registerBytesOf (readOf instructionsAt l .job)) out
+      → Accepts instructionsAt (programOf (readOf instructionsAt l .job)) (registerBytesOf (readOf instructionsAt l .job)) (length out)
   accepts-again out room =
       let t = a .header .taken in
       rw (handed-words, handed-bytes)
@@ -190,5 +190,5 @@ module _ (l : List ℕ) (b : Bytes l) (a : Accepted instructionsAt l) where
           whole = omega (arith, bytes-counted);
           good = omega (arith, words-counted, a .good);
         };
-        room = omega (arith, ap length file-back);
+        enough = omega (arith, ap length file-back);
       })

@@ -21,7 +21,7 @@ use Rattle.job.specs.declared.ReadJob.{ReadJob}
 use Rattle.job.specs.declared.Written.{Written}
 use Rattle.job.specs.Layout.{registersAt, sizeOf, encode, twoAt, wordsIn, registersOf}
 use Rattle.job.specs.Read.{filled, jobOf, acceptedOf, refusedOf, testedOf, headerOf, numberOf, bodyOf, answerFor, readOf}
-use Rattle.job.specs.Write.{writtenOf, writeOf}
+use Rattle.job.specs.Write.{writtenOf, askedOf, writeOf}
 use Rattle.job.proofs.Pieces.{length-pieces}
 
 -- ---- the header
@@ -164,34 +164,44 @@ module _ (at : ℕ) (l : List ℕ) (n r : ℕ) {words : List ℕ} {bad : ℕ}
 
 -- ---- the writer
 
-module _ (at : ℕ) (words bytes out : List ℕ) where
-  pub too-many-words : 64 < length words → (writtenOf COUNT 0 0, out) ≡ writeOf at words bytes out
-  unfolding writeOf
+module _ (at : ℕ) (words bytes : List ℕ) (room : ℕ) where
+  pub too-many-words : 64 < length words → writtenOf COUNT 0 0 ≡ askedOf at words bytes room
+  unfolding askedOf
   too-many-words h = rw (lt-ltb _ _ h)
 
   module _ (few : length words ≤ 64) where
-    pub too-many-bytes : 512 < length bytes → (writtenOf REGS 0 0, out) ≡ writeOf at words bytes out
-    unfolding writeOf
+    pub too-many-bytes : 512 < length bytes → writtenOf REGS 0 0 ≡ askedOf at words bytes room
+    unfolding askedOf
     too-many-bytes h = rw (le-ltb _ _ few, lt-ltb _ _ h)
 
     module _ (fewer : length bytes ≤ 512) where
-      pub part-of-a-register : (length bytes % 16 ≡ 0 → ⊥) → (writtenOf REGS 0 0, out) ≡ writeOf at words bytes out
-      unfolding writeOf
+      pub part-of-a-register : (length bytes % 16 ≡ 0 → ⊥) → writtenOf REGS 0 0 ≡ askedOf at words bytes room
+      unfolding askedOf
       part-of-a-register h = rw (le-ltb _ _ few, le-ltb _ _ fewer, ne-eqb _ _ h)
 
       module _ (whole : length bytes % 16 ≡ 0) {bad : ℕ} (first : bad ≡ firstBad words) where
-        pub bad-word : bad < length words → (writtenOf WORD bad 0, out) ≡ writeOf at words bytes out
-        unfolding writeOf
+        pub bad-word : bad < length words → writtenOf WORD bad 0 ≡ askedOf at words bytes room
+        unfolding askedOf
         bad-word h = rw (le-ltb _ _ few, le-ltb _ _ fewer, eq-eqb _ _ whole, ← first, lt-ltb _ _ h)
 
         module _ (good : length words ≤ bad) {size : ℕ} (sized : size ≡ length (encode at words bytes)) where
-          pub no-room : length out < size → (writtenOf ROOM 0 0, out) ≡ writeOf at words bytes out
-          unfolding writeOf
+          pub no-room : room < size → writtenOf ROOM 0 0 ≡ askedOf at words bytes room
+          unfolding askedOf
           no-room h = rw (le-ltb _ _ few, le-ltb _ _ fewer, eq-eqb _ _ whole, ← first, le-ltb _ _ good, ← sized, lt-ltb _ _ h)
 
-          pub job-written : {new : List ℕ} → size ≤ length out → new ≡ atFront (encode at words bytes) out → (writtenOf 0 0 size, new) ≡ writeOf at words bytes out
-          unfolding writeOf
-          job-written h e = rw (e, le-ltb _ _ few, le-ltb _ _ fewer, eq-eqb _ _ whole, ← first, le-ltb _ _ good, ← sized, le-ltb _ _ h)
+          pub all-fits : size ≤ room → writtenOf 0 0 size ≡ askedOf at words bytes room
+          unfolding askedOf
+          all-fits h = rw (le-ltb _ _ few, le-ltb _ _ fewer, eq-eqb _ _ whole, ← first, le-ltb _ _ good, ← sized, le-ltb _ _ h)
+
+-- the buffer by the answer: unaltered, or with the job at its front
+module _ (at : ℕ) (words bytes out : List ℕ) {answer : Written} (asked : answer ≡ askedOf at words bytes (length out)) where
+  pub not-written : (answer .refusal ≡ 0 → ⊥) → (answer, out) ≡ writeOf at words bytes out
+  unfolding writeOf
+  not-written h = rw (← asked, ne-eqb _ _ h)
+
+  pub job-written : {new : List ℕ} → answer .refusal ≡ 0 → new ≡ atFront (encode at words bytes) out → (answer, new) ≡ writeOf at words bytes out
+  unfolding writeOf
+  job-written h e = rw (← asked, eq-eqb _ _ h, e)
 
 -- ---- what is known of a job that the writer accepts
 
@@ -201,22 +211,22 @@ pub record Writable (words bytes : List ℕ) : Type 0 where
   pub whole : length bytes % 16 ≡ 0
   pub good : length words ≤ firstBad words
 
--- and of the buffer
-pub record Accepts (at : ℕ) (words bytes out : List ℕ) : Type 0 where
+-- and of the room for it
+pub record Accepts (at : ℕ) (words bytes : List ℕ) (room : ℕ) : Type 0 where
   pub job : Writable words bytes
-  pub room : length (encode at words bytes) ≤ length out
+  pub enough : length (encode at words bytes) ≤ room
 
 either : (a b : Bool) → (a || not b) ≡ false → (a ≡ false) × (b ≡ true)
 either true b e = absurd (true≢false e)
 either false b e = (refl, not-false b e)
 
-pub accepts : (at : ℕ) (words bytes out : List ℕ) → writeOf at words bytes out .0 .refusal ≡ 0 → Accepts at words bytes out
-unfolding writeOf
-accepts at words bytes out =
+pub asked-accepts : (at : ℕ) (words bytes : List ℕ) (room : ℕ) → askedOf at words bytes room .refusal ≡ 0 → Accepts at words bytes room
+unfolding askedOf
+asked-accepts at words bytes room =
     cases P (ltb 64 (length words)) (λ _ e. absurd (omega arith)) (λ a.
     cases P (ltb 512 (length bytes) || not (eqb (length bytes % 16) 0)) (λ _ e. absurd (omega arith)) (λ b.
     cases P (ltb (firstBad words) (length words)) (λ _ e. absurd (omega arith)) (λ d.
-    cases P (ltb (length out) (length (encode at words bytes))) (λ _ e. absurd (omega arith)) (λ f e.
+    cases P (ltb room (length (encode at words bytes))) (λ _ e. absurd (omega arith)) (λ f e.
     let registers = either (ltb 512 (length bytes)) (eqb (length bytes % 16) 0) b in
     record {
       job = record {
@@ -225,17 +235,21 @@ accepts at words bytes out =
         whole = eqb-true (length bytes % 16) 0 (registers .1);
         good = ltb-false (firstBad words) (length words) d;
       };
-      room = ltb-false (length out) (length (encode at words bytes)) f;
+      enough = ltb-false room (length (encode at words bytes)) f;
     }))))
   where
-    P : Written × List ℕ → Type 0
-    P answer = answer .0 .refusal ≡ 0 → Accepts at words bytes out
+    P : Written → Type 0
+    P answer = answer .refusal ≡ 0 → Accepts at words bytes room
 
-pub written : (at : ℕ) (words bytes out : List ℕ) → Accepts at words bytes out
+pub accepts : (at : ℕ) (words bytes out : List ℕ) → writeOf at words bytes out .0 .refusal ≡ 0 → Accepts at words bytes (length out)
+unfolding writeOf
+accepts at words bytes out e = asked-accepts at words bytes (length out) e
+
+pub written : (at : ℕ) (words bytes out : List ℕ) → Accepts at words bytes (length out)
     → writeOf at words bytes out ≡ (writtenOf 0 0 (length (encode at words bytes)), atFront (encode at words bytes) out)
 written at words bytes out a =
     let j = a .job in
-    sym (job-written at words bytes out (j .few) (j .fewer) (j .whole) refl (j .good) refl (a .room) refl)
+    sym (job-written at words bytes out (all-fits at words bytes (length out) (j .few) (j .fewer) (j .whole) refl (j .good) refl (a .enough)) refl refl)
 
 -- ---- what is known of a file that the reader accepts
 

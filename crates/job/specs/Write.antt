@@ -15,15 +15,21 @@ use Rattle.job.specs.Layout.{encode}
 abbrev pub writtenOf : ℕ → ℕ → ℕ → Written
 writtenOf number place size = record { refusal = number; place = place; size = size }
 
--- "the writer tests 2, 3, 6, 9"; "puts the job at the front of the buffer; bytes beyond it stay"; refused, the buffer stays "unaltered"
+-- "the writer tests 2, 3, 6, 9", in that order: its answer where the buffer has so many bytes
+unfoldable pub askedOf : ℕ → List ℕ → List ℕ → ℕ → Written
+askedOf at words bytes room =
+    let size : ℕ = length (encode at words bytes) in
+    cond (ltb 64 (length words)) (writtenOf COUNT 0 0)
+    (cond (ltb 512 (length bytes) || not (eqb (length bytes % 16) 0)) (writtenOf REGS 0 0)
+    (cond (ltb (firstBad words) (length words)) (writtenOf WORD (firstBad words) 0)
+    (cond (ltb room size) (writtenOf ROOM 0 0)
+    (writtenOf 0 0 size))))
+
+-- that answer, and the buffer afterwards: "The writer puts the job at the front of the buffer; bytes beyond it stay"; refused, "buffers stay unaltered"
 unfoldable pub writeOf : ℕ → List ℕ → List ℕ → List ℕ → Written × List ℕ
 writeOf at words bytes out =
-    let job : List ℕ = encode at words bytes in
-    cond (ltb 64 (length words)) (writtenOf COUNT 0 0, out)
-    (cond (ltb 512 (length bytes) || not (eqb (length bytes % 16) 0)) (writtenOf REGS 0 0, out)
-    (cond (ltb (firstBad words) (length words)) (writtenOf WORD (firstBad words) 0, out)
-    (cond (ltb (length out) (length job)) (writtenOf ROOM 0 0, out)
-    (writtenOf 0 0 (length job), atFront job out))))
+    let answer : Written = askedOf at words bytes (length out) in
+    (answer, cond (eqb (answer .refusal) 0) (atFront (encode at words bytes) out) out)
 
 -- a job that was read, as the writer takes it: its n words and the bytes of its r registers
 abbrev pub programOf : Job → List ℕ

@@ -6,7 +6,8 @@ ghost use Rattle.register.specs.Layout.{lane, zeroRegister, rowOf, ofRow
 pub mod bytes;
 pub mod halves;
 
-use bytes::word_of_bytes;
+use bytes::with_word;
+use bytes::word_at;
 use halves::half_of_word;
 use halves::join_words;
 use halves::put_half;
@@ -38,34 +39,21 @@ impl Register {
         ensures { λ r. ⌜ r ≡ ofBytes b ⌝ }
     {
         Register {
-            w0: word_of_bytes(b[0], b[1], b[2], b[3]),
-            w1: word_of_bytes(b[4], b[5], b[6], b[7]),
-            w2: word_of_bytes(b[8], b[9], b[10], b[11]),
-            w3: word_of_bytes(b[12], b[13], b[14], b[15]),
+            w0: word_at(b, 0),
+            w1: word_at(b, 4),
+            w2: word_at(b, 8),
+            w3: word_at(b, 12),
         }
     }
 
     pub fn to_bytes(self) -> [u8; 16]
         ensures { λ r. ⌜ r ≡ bytesOf self ⌝ }
     {
-        [
-            (self.w0 % 0x100) as u8,
-            (self.w0 / 0x100 % 0x100) as u8,
-            (self.w0 / 0x1_0000 % 0x100) as u8,
-            (self.w0 / 0x100_0000 % 0x100) as u8,
-            (self.w1 % 0x100) as u8,
-            (self.w1 / 0x100 % 0x100) as u8,
-            (self.w1 / 0x1_0000 % 0x100) as u8,
-            (self.w1 / 0x100_0000 % 0x100) as u8,
-            (self.w2 % 0x100) as u8,
-            (self.w2 / 0x100 % 0x100) as u8,
-            (self.w2 / 0x1_0000 % 0x100) as u8,
-            (self.w2 / 0x100_0000 % 0x100) as u8,
-            (self.w3 % 0x100) as u8,
-            (self.w3 / 0x100 % 0x100) as u8,
-            (self.w3 / 0x1_0000 % 0x100) as u8,
-            (self.w3 / 0x100_0000 % 0x100) as u8,
-        ]
+        let zeros = [0u8; 16];
+        let four = with_word(zeros, 0, self.w0);
+        let eight = with_word(four, 4, self.w1);
+        let twelve = with_word(eight, 8, self.w2);
+        with_word(twelve, 12, self.w3)
     }
 
     pub fn from_row(row: [u32; 4]) -> Register

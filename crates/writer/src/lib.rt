@@ -1,4 +1,4 @@
-// The writer of job files: its tests, then header, words and register bytes, each into its own part of the buffer.
+// The writer of job files: where its tests refuse nothing, header, words and register bytes, each into its own part of the buffer.
 
 ghost use Prim.Native.Nat.{_+_, _*_, _≤_};
 ghost use mathlib.Core.Path.{_≡_};
@@ -6,24 +6,22 @@ ghost use mathlib.Core.List.{flatMap};
 ghost use lib.ListN.{length};
 ghost use Rattle.front.specs.Front.{atFront};
 ghost use Rattle.job.specs.Layout.{instructionsAt, LARGEST, fourBytes, headerBytes, encode};
-ghost use Rattle.job.specs.Write.{writtenOf, writeOf};
+ghost use Rattle.job.specs.Write.{writeOf};
 
 mod numbers;
 
 use crate::numbers::put_four;
-use crate::numbers::put_two;
+use crate::numbers::put_pair;
 use job::INSTRUCTIONS_AT;
 use job::Written;
-use table::refusal;
+use writable::asked;
 
 fn put_header(out: &mut [u8], at: usize, n: usize, r: usize)
     requires { ⌜ (8 ≤ length (now out)) × (at ≤ LARGEST) × (n ≤ 64) ⌝ }
     ensures { λ _. ⌜ now (out .exit) ≡ atFront (headerBytes at n r) (now (out .entry)) ⌝ }
 {
-    put_two(out, n);
-    put_two(&mut out[2..], r);
-    put_two(&mut out[4..], at);
-    put_two(&mut out[6..], at + 4 * n);
+    put_pair(out, n, r);
+    put_pair(&mut out[4..], at, at + 4 * n);
 }
 
 fn put_words(out: &mut [u8], words: &[u32])
@@ -62,40 +60,13 @@ fn put_job(out: &mut [u8], words: &[u32], registers: &[u8])
     put_bytes(&mut out[at..], registers);
 }
 
-fn refused(number: u32, place: usize) -> Written
-    ensures { λ r. ⌜ r ≡ writtenOf number place 0 ⌝ }
-{
-    Written {
-        refusal: number,
-        place,
-        size: 0,
-    }
-}
-
 pub fn write_job(words: &[u32], registers: &[u8], out: &mut [u8]) -> Written
     ensures { λ r. ⌜ (r, now (out .exit)) ≡ writeOf instructionsAt (now (words .entry)) (now (registers .entry)) (now (out .entry)) ⌝ }
 {
-    if words.len() > 64 {
-        return refused(refusal::COUNT, 0);
-    }
-    if registers.len() > 512 {
-        return refused(refusal::REGS, 0);
-    }
-    if registers.len() % 16 != 0 {
-        return refused(refusal::REGS, 0);
-    }
-    let bad = refusal::first_bad(words);
-    if bad < words.len() {
-        return refused(refusal::WORD, bad);
-    }
-    let size = INSTRUCTIONS_AT + 4 * words.len() + registers.len();
-    if out.len() < size {
-        return refused(refusal::ROOM, 0);
+    let answer = asked(words, registers, out.len());
+    if answer.refusal != 0 {
+        return answer;
     }
     put_job(out, words, registers);
-    Written {
-        refusal: 0,
-        place: 0,
-        size,
-    }
+    answer
 }

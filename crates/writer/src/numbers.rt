@@ -1,17 +1,20 @@
-// Numbers of two and of four bytes, least significant byte first, at the front of a buffer.
+// Two numbers of two bytes, and a number of four, least significant byte first, at the front of a buffer.
 
 ghost use Prim.Native.Nat.{_≤_};
 ghost use mathlib.Core.Path.{_≡_};
+ghost use mathlib.Core.List.{_++_};
 ghost use lib.ListN.{length};
 ghost use Rattle.front.specs.Front.{atFront};
 ghost use Rattle.job.specs.Layout.{twoBytes, fourBytes};
 
-pub(crate) fn put_two(out: &mut [u8], v: usize)
-    requires { ⌜ 2 ≤ length (now out) ⌝ }
-    ensures { λ _. ⌜ now (out .exit) ≡ atFront (twoBytes v) (now (out .entry)) ⌝ }
+pub(crate) fn put_pair(out: &mut [u8], first: usize, second: usize)
+    requires { ⌜ 4 ≤ length (now out) ⌝ }
+    ensures { λ _. ⌜ now (out .exit) ≡ atFront (twoBytes first ++ twoBytes second) (now (out .entry)) ⌝ }
 {
-    out[0] = (v % 0x100) as u8;
-    out[1] = (v / 0x100 % 0x100) as u8;
+    out[0] = (first % 0x100) as u8;
+    out[1] = (first / 0x100 % 0x100) as u8;
+    out[2] = (second % 0x100) as u8;
+    out[3] = (second / 0x100 % 0x100) as u8;
 }
 
 pub(crate) fn put_four(out: &mut [u8], w: u32)
