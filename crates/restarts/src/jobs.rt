@@ -27,14 +27,12 @@ pub(crate) fn started(u: Unit, letter: u8) -> Unit {
     started.unit
 }
 
-pub(crate) fn after_cycles(u: Unit, count: u32) -> Unit {
-    let mut now = u;
+pub(crate) fn after_cycles(mut u: Unit, count: u32) -> Unit {
     let mut made = 0;
     while made < count {
-        let cycled = unit::cycle(now);
-        let next = cycled.unit;
-        now = next;
+        let cycled = unit::cycle(u);
+        u = cycled.unit;
         made += 1;
     }
-    now
+    u
 }

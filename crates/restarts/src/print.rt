@@ -10,13 +10,7 @@ use row::Flags;
 use row::Row;
 use row::Stage;
 use table::Pointer;
-
-// How many rows there were, the number that the next cycle was refused with, and the unit.
-pub(crate) struct Ended {
-    pub rows: u32,
-    pub refusal: u32,
-    pub unit: Unit,
-}
+use table::refusal;
 
 // No job has more than 67 cycles, so a unit that is asked for so many rows refuses one of them.
 const MOST_ROWS: u32 = 68;
@@ -24,36 +18,20 @@ const MOST_ROWS: u32 = 68;
 // A row's bytes in front of the number of the register that is written.
 const REGISTER_AT: usize = 39;
 
-pub(crate) fn print_rows(u: Unit) -> Ended {
-    let mut now = u;
-    let mut line = [0u8; ROW_SIZE];
-    let mut rows = 0;
-    let mut refusal = 0;
-    while rows < MOST_ROWS {
-        let cycled = traced::cycle_with_row(now, &mut line, 0);
-        refusal = cycled.refusal;
-        if refusal != 0 {
-            break;
-        }
-        io::write_all(STDOUT_FILENO, &line);
-        let next = cycled.unit;
-        now = next;
-        rows += 1;
-    }
-    Ended {
-        rows,
-        refusal,
-        unit: now,
-    }
+fn print_end(rows: u32) {
+    let line = [
+        b'E',
+        b'N',
+        b'D',
+        b' ',
+        digits::tens(rows),
+        digits::units(rows),
+        b'\n',
+    ];
+    io::write_all(STDOUT_FILENO, &line);
 }
 
-pub(crate) fn print_end(rows: u32) {
-    io::write_all(STDOUT_FILENO, b"END ");
-    let count = [digits::tens(rows), digits::units(rows), b'\n'];
-    io::write_all(STDOUT_FILENO, &count);
-}
-
-pub(crate) fn print_refused(number: u32) {
+fn print_refused(number: u32) {
     io::write_all(STDOUT_FILENO, b"REFUSED ");
     io::print_decimal(STDOUT_FILENO, number as u64);
     io::write_all(STDOUT_FILENO, b"\n");
@@ -83,11 +61,39 @@ fn print_register(number: u8, value: Register) {
     io::write_all(STDOUT_FILENO, &line[REGISTER_AT..]);
 }
 
-pub(crate) fn print_registers(registers: [Register; 32]) {
+fn print_registers(registers: [Register; 32]) {
     let mut number: u8 = 0;
     while number < 32 {
         let value = registers[number as usize];
         print_register(number, value);
         number += 1;
     }
+}
+
+// Rows end where the unit is drained, and an END says so: any other refusal is a fault.
+fn print_ended(rows: u32, number: u32, registers: [Register; 32]) {
+    if number != refusal::DRAINED {
+        print_refused(number);
+        return;
+    }
+    print_end(rows);
+    print_registers(registers);
+}
+
+pub(crate) fn print_rows(mut u: Unit) {
+    let mut line = [0u8; ROW_SIZE];
+    let mut rows = 0;
+    let mut refusal = 0;
+    while rows < MOST_ROWS {
+        let cycled = traced::cycle_with_row(u, &mut line, 0);
+        refusal = cycled.refusal;
+        if refusal != 0 {
+            break;
+        }
+        io::write_all(STDOUT_FILENO, &line);
+        u = cycled.unit;
+        rows += 1;
+    }
+    let registers = u.registers;
+    print_ended(rows, refusal, registers);
 }

@@ -5,10 +5,10 @@ use Rattle.restarts.proofs.jobs.after_cycles.Statement.{statement}
 use Rattle.restarts.proofs.jobs.after_cycles.Tie as tie
 
 abbrev Inv-loop : tie.InvT-loop
-Inv-loop count now₀ made₀ now made = Unit {0}
+Inv-loop u₀ count made₀ u made = Unit {0}
 
 abbrev μ-loop : tie.MeasureT-loop
-μ-loop count now₀ made₀ now made = count - made
+μ-loop u₀ count made₀ u made = count - made
 
 loop-holds : tie.Need-loop-holds Inv-loop μ-loop
 loop-holds c = search needs

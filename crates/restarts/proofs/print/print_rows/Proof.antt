@@ -7,10 +7,10 @@ use Rattle.restarts.proofs.print.print_rows.Statement.{statement}
 use Rattle.restarts.proofs.print.print_rows.Tie as tie
 
 abbrev Inv-loop : tie.InvT-loop
-Inv-loop now₀ line₀ rows₀ refusal₀ now line rows refusal = 75 ≡ length line
+Inv-loop u₀ line₀ rows₀ refusal₀ u line rows refusal = 75 ≡ length line
 
 abbrev μ-loop : tie.MeasureT-loop
-μ-loop now₀ line₀ rows₀ refusal₀ now line rows refusal = 68 - rows
+μ-loop u₀ line₀ rows₀ refusal₀ u line rows refusal = 68 - rows
 
 loop-holds : tie.Need-loop-holds Inv-loop μ-loop
 loop-holds c = search needs
@@ -36,11 +36,11 @@ loop-less c = search needs
 loop-again : tie.Need-loop-again Inv-loop μ-loop
 loop-again c = search needs
 
+print-ended-requires : tie.Need-print-ended-requires Inv-loop μ-loop
+print-ended-requires c κs = search needs
+
 returns : tie.Need-returns Inv-loop μ-loop
 returns c = search needs
-
-returns-2 : tie.Need-returns-2 Inv-loop μ-loop
-returns-2 c = search needs
 
 pub print-rows-spec : {M : Type 1} → statement M
 print-rows-spec =
@@ -56,5 +56,5 @@ print-rows-spec =
     add-rows
     loop-less
     loop-again
-    returns
-    returns-2)
+    print-ended-requires
+    returns)
