@@ -1,60 +1,37 @@
 // Job files at the edges of what is accepted, through reader, start, writer and plain machine.
 
 ghost use Prim.Native.Nat.{_≤_};
-ghost use mathlib.Core.Path.{_≡_};
-ghost use lib.ListN.{length};
 use crate::print;
 use crate::print::ROOM;
+use crate::texts;
+use crate::texts::form;
+use crate::texts::text;
 use crate::units;
 use crate::words;
 
-// A byte that stands in no file here.
+// A byte that stands in no file here; `texts::FROM_FILL` says eight of them.
 const FILL: u8 = 0xEE;
-
-// Zeros behind such a header.
-fn file_of(n: usize, r: usize, first: usize, second: usize) -> [u8; ROOM]
-    ensures { λ file. ⌜ 800 ≡ length file ⌝ }
-{
-    let mut file = [0u8; ROOM];
-    file[0] = (n % 0x100) as u8;
-    file[1] = (n / 0x100 % 0x100) as u8;
-    file[2] = (r % 0x100) as u8;
-    file[3] = (r / 0x100 % 0x100) as u8;
-    file[4] = (first % 0x100) as u8;
-    file[5] = (first / 0x100 % 0x100) as u8;
-    file[6] = (second % 0x100) as u8;
-    file[7] = (second / 0x100 % 0x100) as u8;
-    file
-}
-
-fn print_read(file: &[u8]) {
-    let read = reader::read_job(file);
-    print::labelled(b"  read: ", read.refusal as u64);
-    print::labelled(b" at ", read.place as u64);
-    let job = read.job;
-    let n = job.n;
-    print::labelled(b", n ", n.0 as u64);
-    print::labelled(b", r ", job.r as u64);
-    print::text(b"\n");
-}
 
 // A refused start leaves a unit that is halfway through another job as it was.
 fn print_answers(file: &[u8]) {
-    print_read(file);
-    let halfway = units::sample_after(2);
-    units::print_start(halfway, file);
+    let read = reader::read_job(file);
+    form(texts::READ, read.refusal as usize, read.place, 0);
+    form(texts::READ_COUNTS, read.job.n.0 as usize, read.job.r, 0);
+    units::print_start(units::sample_after(2), file);
 }
 
-fn print_file(n: usize, r: usize, first: usize, second: usize, size: usize)
+// Zeros behind such a header.
+fn print_file(n: u8, r: u8, first: u8, second: usize, size: usize)
     requires { ⌜ size ≤ 800 ⌝ }
 {
-    let file = file_of(n, r, first, second);
-    print::labelled(b"file n ", n as u64);
-    print::labelled(b", r ", r as u64);
-    print::labelled(b", offsets ", first as u64);
-    print::labelled(b" ", second as u64);
-    print::labelled(b", ", size as u64);
-    print::text(b" bytes\n");
+    form(texts::FILE, n as usize, r as usize, first as usize);
+    form(texts::FILE_SIZE, second, size, 0);
+    let mut file = [0u8; ROOM];
+    file[0] = n;
+    file[2] = r;
+    file[4] = first;
+    file[6] = (second % 0x100) as u8;
+    file[7] = (second / 0x100 % 0x100) as u8;
     print_answers(&file[0..size]);
 }
 
@@ -76,35 +53,22 @@ fn print_files() {
     print_file(1, 0, 8, 12, 13);
 }
 
-// The bytes of a header.
-fn print_front(buffer: &[u8; ROOM]) {
-    print::byte(buffer[0]);
-    print::byte(buffer[1]);
-    print::byte(buffer[2]);
-    print::byte(buffer[3]);
-    print::byte(buffer[4]);
-    print::byte(buffer[5]);
-    print::byte(buffer[6]);
-    print::byte(buffer[7]);
-}
-
 // With so many register bytes, all of them zero.
 fn print_written(words: &[u32], bytes: usize, room: usize)
     requires { ⌜ (bytes ≤ 528) × (room ≤ 800) ⌝ }
 {
     let registers = [0u8; 528];
     let mut out = [FILL; ROOM];
-    let filled = out;
     let written = writer::write_job(words, &registers[0..bytes], &mut out[0..room]);
-    print::labelled(b": ", written.refusal as u64);
-    print::labelled(b" at ", written.place as u64);
-    print::labelled(b", size ", written.size as u64);
+    form(
+        texts::WRITTEN,
+        written.refusal as usize,
+        written.place,
+        written.size,
+    );
     print::altered(&out, FILL);
-    print::text(b", ");
-    print_front(&filled);
-    print::text(b" to ");
-    print_front(&out);
-    print::text(b"\n");
+    text(texts::FROM_FILL);
+    print::front(&out);
 }
 
 // The words are zeros.
@@ -112,9 +76,8 @@ fn print_write(count: usize, bytes: usize, room: usize)
     requires { ⌜ (count ≤ 65) × (bytes ≤ 528) × (room ≤ 800) ⌝ }
 {
     let zeros = [0u32; 65];
-    print::labelled(b"write ", count as u64);
-    print::labelled(b" words, ", bytes as u64);
-    print::labelled(b" bytes, room ", room as u64);
+    form(texts::WRITE, count, 0, 0);
+    form(texts::WRITE_ROOM, bytes, room, 0);
     print_written(&zeros[0..count], bytes, room);
 }
 
@@ -123,10 +86,9 @@ fn print_write_bad(bytes: usize, room: usize)
     requires { ⌜ (bytes ≤ 528) × (room ≤ 800) ⌝ }
 {
     let bad = [0x200_0000];
-    print::text(b"write words");
+    text(texts::WRITE_PROGRAM);
     print::program(&bad);
-    print::labelled(b", ", bytes as u64);
-    print::labelled(b" bytes, room ", room as u64);
+    form(texts::WRITE_ROOM, bytes, room, 0);
     print_written(&bad, bytes, room);
 }
 
@@ -149,11 +111,11 @@ fn print_writes() {
 
 // The same words through every call that takes words, and in the file that has them.
 fn print_words(words: &[u32], file: &[u8]) {
-    print::text(b"words");
+    text(texts::PROGRAM);
     print::program(words);
-    print::text(b"\n");
+    text(texts::LINE_END);
     print_answers(file);
-    print::text(b"  write");
+    text(texts::WRITE_SAME);
     print_written(words, 0, ROOM);
     words::print_plain(words);
 }

@@ -4,6 +4,7 @@
 mod files;
 mod print;
 mod rows;
+mod texts;
 mod units;
 mod words;
 

@@ -3,6 +3,9 @@
 ghost use Prim.Native.Nat.{_≤_};
 use crate::print;
 use crate::print::ROOM;
+use crate::texts;
+use crate::texts::form;
+use crate::texts::text;
 use crate::units;
 use model::Unit;
 use register::Register;
@@ -15,7 +18,8 @@ use table::Pointer;
 // A byte that stands in no row.
 const FILL: u8 = b'.';
 
-const LARGEST_START: usize = 0xFFFF_FFFF_FFFF_FFFF;
+// No buffer has room behind it.
+pub(crate) const LARGEST_START: usize = 0xFFFF_FFFF_FFFF_FFFF;
 
 fn full_row() -> Row {
     let value = Register::ZERO;
@@ -40,30 +44,19 @@ fn print_row(room: usize, start: usize)
     let mut buffer = [FILL; ROOM];
     let row = full_row();
     let answer = printer::write_row(&mut buffer[0..room], start, row);
-    print::labelled(b"row ", room as u64);
-    print::labelled(b" ", start as u64);
-    print::labelled(b": ", answer as u64);
+    form(texts::ROW, room, start, answer as usize);
     print::altered(&buffer, FILL);
-    print::text(b"\n");
+    text(texts::LINE_END);
 }
 
-// The unit that comes back is shown by its lines and its cycle number.
-fn print_cycle(u: Unit, room: usize, start: usize)
+pub(crate) fn print_cycle(u: Unit, room: usize, start: usize)
     requires { ⌜ room ≤ 800 ⌝ }
 {
     let mut buffer = [FILL; ROOM];
     let cycled = traced::cycle_with_row(u, &mut buffer[0..room], start);
-    print::labelled(b"cycle with row ", room as u64);
-    print::labelled(b" ", start as u64);
-    print::labelled(b": ", cycled.refusal as u64);
+    form(texts::CYCLE_WITH_ROW, room, start, cycled.refusal as usize);
     print::altered(&buffer, FILL);
-    let after = cycled.unit;
-    units::print_unit(after);
-}
-
-// A cycle with a row for which there is no room at any start.
-pub(crate) fn print_cycle_without_room(u: Unit) {
-    print_cycle(u, 80, LARGEST_START);
+    print::unit(cycled.unit.n.0, cycled.unit.cycle);
 }
 
 fn print_rows() {

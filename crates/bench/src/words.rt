@@ -2,6 +2,10 @@
 
 ghost use Prim.Native.Nat.{_≤_};
 use crate::print;
+use crate::texts;
+use crate::texts::form;
+use crate::texts::text;
+use plain::Executed;
 use register::Register;
 
 // Register 1 has a 7 in its word 3, so that it shows both what a word writes and what it leaves.
@@ -12,23 +16,25 @@ fn file_with_7() -> [[u32; 4]; 32] {
     file
 }
 
-fn print_row(row: [u32; 4]) {
-    print::value(Register::from_row(row));
-    print::text(b"\n");
-}
-
-fn print_executed(refusal: u32, place: usize, file: [[u32; 4]; 32]) {
-    print::labelled(b": ", refusal as u64);
-    print::labelled(b" at ", place as u64);
-    print::text(b", register 1 ");
-    print_row(file[1]);
+fn print_executed(executed: Executed) {
+    form(
+        texts::EXECUTED,
+        executed.refusal as usize,
+        executed.place,
+        0,
+    );
+    let file = plain::file_in(executed);
+    print::value(Register::from_row(file[1]));
 }
 
 pub(crate) fn print_plain(words: &[u32]) {
     let executed = plain::execute_all(words, file_with_7());
-    print::labelled(b"  plain: ", executed.refusal as u64);
-    print::labelled(b" at ", executed.place as u64);
-    print::text(b"\n");
+    form(
+        texts::PLAIN_SAME,
+        executed.refusal as usize,
+        executed.place,
+        0,
+    );
 }
 
 // li 5 into halfword 0 of register 1, and behind it li 0 into halfword 0 of register 0.
@@ -37,30 +43,29 @@ fn print_count(count: usize)
 {
     let mut words = [0u32; 65];
     words[0] = 0xA1;
-    print::labelled(b"plain ", count as u64);
-    print::text(b" words");
+    form(texts::PLAIN, count, 0, 0);
     let executed = plain::execute_all(&words[0..count], file_with_7());
-    print_executed(executed.refusal, executed.place, plain::file_in(executed));
+    print_executed(executed);
 }
 
 // The word before the first bad one is not executed.
 fn print_two_bad() {
     let words = [0xA1, 0x200_0000, 0xFFFF_FFFF];
-    print::text(b"plain words");
+    text(texts::PLAIN_PROGRAM);
     print::program(&words);
     let executed = plain::execute_all(&words, file_with_7());
-    print_executed(executed.refusal, executed.place, plain::file_in(executed));
+    print_executed(executed);
 }
 
 fn print_lone(word: u32) {
-    print::text(b"lone word ");
+    text(texts::LONE);
     print::word(word);
     let executed = plain::execute(word, file_with_7());
-    print_executed(executed.refusal, executed.place, plain::file_in(executed));
+    print_executed(executed);
 }
 
 // The words here read registers 1, 2 and 3 and write register 4.
-fn print_lanes(title: &[u8], word: u32, rs1: [u32; 4], rs2: [u32; 4], rs3: [u32; 4]) {
+fn print_lanes(title: usize, word: u32, rs1: [u32; 4], rs2: [u32; 4], rs3: [u32; 4]) {
     let zero = [0u32; 4];
     let mut file = [zero; 32];
     file[1] = rs1;
@@ -68,8 +73,8 @@ fn print_lanes(title: &[u8], word: u32, rs1: [u32; 4], rs2: [u32; 4], rs3: [u32;
     file[3] = rs3;
     let executed = plain::execute(word, file);
     let after = plain::file_in(executed);
-    print::text(title);
-    print_row(after[4]);
+    text(title);
+    print::value(Register::from_row(after[4]));
 }
 
 // In both longs.
@@ -77,20 +82,8 @@ fn print_longs() {
     let factor = [0x8000_0000, 0, 0x8000_0000, 0];
     let most = [0xFFFF_FFFF, 0x3FFF_FFFF, 0xFFFF_FFFF, 0x3FFF_FFFF];
     let one_less = [0xFFFF_FFFE, 0x3FFF_FFFF, 0xFFFF_FFFE, 0x3FFF_FFFF];
-    print_lanes(
-        b"SLMAL 80000000 x 80000000 + 3FFFFFFFFFFFFFFF: ",
-        0x141_8824,
-        most,
-        factor,
-        factor,
-    );
-    print_lanes(
-        b"SLMAL 80000000 x 80000000 + 3FFFFFFFFFFFFFFE: ",
-        0x141_8824,
-        one_less,
-        factor,
-        factor,
-    );
+    print_lanes(texts::LONGS_MOST, 0x141_8824, most, factor, factor);
+    print_lanes(texts::LONGS_ONE_LESS, 0x141_8824, one_less, factor, factor);
 }
 
 // In all words, or halfwords.
@@ -100,28 +93,10 @@ fn print_short() {
     let one = [1u32; 4];
     let thirty_two = [32u32; 4];
     let turned = [0x8001_0004u32; 4];
-    print_lanes(b"CNTIH FFFF: ", 0x181_8024, ones, zero, zero);
-    print_lanes(
-        b"MAXWS FFFFFFFF and 00000001: ",
-        0x183_8824,
-        ones,
-        one,
-        zero,
-    );
-    print_lanes(
-        b"MAXWS 00000001 and FFFFFFFF: ",
-        0x183_8824,
-        one,
-        ones,
-        zero,
-    );
-    print_lanes(
-        b"ROTW 80010004 by 32: ",
-        0x186_8824,
-        turned,
-        thirty_two,
-        zero,
-    );
+    print_lanes(texts::ONES_COUNTED, 0x181_8024, ones, zero, zero);
+    print_lanes(texts::LARGER_SECOND, 0x183_8824, ones, one, zero);
+    print_lanes(texts::LARGER_FIRST, 0x183_8824, one, ones, zero);
+    print_lanes(texts::ROTATED, 0x186_8824, turned, thirty_two, zero);
 }
 
 pub(crate) fn print_all() {

@@ -14,14 +14,17 @@ abbrev μ-loop : tie.MeasureT-loop
 loop-holds : tie.Need-loop-holds Inv-loop μ-loop
 loop-holds c = search needs
 
-mul-spaced-word : tie.Need-mul-spaced-word Inv-loop μ-loop
-mul-spaced-word c = search needs
+text-requires : tie.Need-text-requires Inv-loop μ-loop
+text-requires c κs = search needs
 
-shared-slice-read-spaced-word : tie.Need-shared-slice-read-spaced-word Inv-loop μ-loop
-shared-slice-read-spaced-word c = search needs
+mul-word : tie.Need-mul-word Inv-loop μ-loop
+mul-word c = search needs
 
-spaced-word-requires : tie.Need-spaced-word-requires Inv-loop μ-loop
-spaced-word-requires c κs = search needs
+shared-slice-read-word : tie.Need-shared-slice-read-word Inv-loop μ-loop
+shared-slice-read-word c = search needs
+
+word-requires : tie.Need-word-requires Inv-loop μ-loop
+word-requires c κs = search needs
 
 add-i : tie.Need-add-i Inv-loop μ-loop
 add-i c = search needs
@@ -42,9 +45,10 @@ program-spec =
     Inv-loop
     μ-loop
     loop-holds
-    mul-spaced-word
-    shared-slice-read-spaced-word
-    spaced-word-requires
+    text-requires
+    mul-word
+    shared-slice-read-word
+    word-requires
     add-i
     loop-less
     loop-again
