@@ -4,7 +4,6 @@ use Prim.Native.Nat.{ℕ, suc, _+_, _-_, _≤_, _<_}
 use mathlib.Core.Path.{_≡_, sym, ap, _∙_}
 use mathlib.Core.List.{List, [], _∷_, _++_, append-assoc, append-nil}
 use native.Mathlib.Omega.{arith}
-use native.Mathlib.Nat.{not-suc-le-zero}
 use native.Mathlib.Numerals.{add-one}
 use borrow.Rule.Slice.PartMut.{midOf, postOf, putMid}
 use lib.ListN.{length, getD, take, drop, set, length-append, length-drop, drop-of-length-le}
@@ -37,12 +36,6 @@ module _ {A : Type 0} where
   pub then-front : (a : ℕ) (p q old xs ys : List A) → length p ≡ a → xs ≡ atFront p old → ys ≡ atFront q (midOf a (length xs - a) xs)
       → putMid a (length xs - a) xs ys ≡ atFront (p ++ q) old
   then-front a p q old xs ys n s e = put-from a q xs ys e ∙ then-from a p q old xs n s
-
-  -- q put from the second place on, and then an element at the first
-  pub behind-one : (b : A) (q xs ys : List A) → 1 ≤ length xs → ys ≡ atFront q (midOf 1 (length xs - 1) xs)
-      → set (putMid 1 (length xs - 1) xs ys) 0 b ≡ atFront (b ∷ q) xs
-  behind-one b q [] ys h e = absurd (not-suc-le-zero h)
-  behind-one b q (x ∷ xs) ys h e = ap (λ (l : List A). set l 0 b) (put-from 1 q (x ∷ xs) ys e)
 
   -- the next element of s stored behind those before it
   pub next-stored : (s old out : List A) (i : ℕ) (z : A) → length s ≤ length old → i < length s → out ≡ atFront (take i s) old

@@ -45,25 +45,18 @@ pub(crate) fn put_two(out: &mut [u8], n: u32)
     out[1] = units(n);
 }
 
-pub(crate) fn put_seven(out: &mut [u8], w: u32)
-    requires { ⌜ 7 ≤ length (now out) ⌝ }
-    ensures { λ _. ⌜ now (out .exit) ≡ atFront (hexDigits 7 w) (now (out .entry)) ⌝ }
+// The last k hex digits, from the last one back.
+pub(crate) fn put_hex(out: &mut [u8], k: usize, w: u32)
+    requires { ⌜ k ≤ length (now out) ⌝ }
+    ensures { λ _. ⌜ now (out .exit) ≡ atFront (hexDigits k w) (now (out .entry)) ⌝ }
 {
-    out[0] = DIGITS[(w / 0x100_0000 % 16) as usize];
-    out[1] = DIGITS[(w / 0x10_0000 % 16) as usize];
-    out[2] = DIGITS[(w / 0x1_0000 % 16) as usize];
-    out[3] = DIGITS[(w / 0x1000 % 16) as usize];
-    out[4] = DIGITS[(w / 0x100 % 16) as usize];
-    out[5] = DIGITS[(w / 0x10 % 16) as usize];
-    out[6] = DIGITS[(w % 16) as usize];
-}
-
-pub(crate) fn put_eight(out: &mut [u8], w: u32)
-    requires { ⌜ 8 ≤ length (now out) ⌝ }
-    ensures { λ _. ⌜ now (out .exit) ≡ atFront (hexDigits 8 w) (now (out .entry)) ⌝ }
-{
-    put_seven(&mut out[1..], w);
-    out[0] = DIGITS[(w / 0x1000_0000 % 16) as usize];
+    let mut rest = w;
+    let mut i = k;
+    while i > 0 {
+        i -= 1;
+        out[i] = DIGITS[(rest % 16) as usize];
+        rest /= 16;
+    }
 }
 
 pub(crate) fn put_hyphens(out: &mut [u8], k: usize)

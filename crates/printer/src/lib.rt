@@ -9,9 +9,8 @@ ghost use Rattle.row.specs.Text.{rowSize, rowText, rowAt};
 pub mod digits;
 mod fields;
 
-use crate::digits::put_two;
+use crate::fields::put_begin;
 use crate::fields::put_end;
-use crate::fields::put_stages;
 use row::Row;
 use table::refusal;
 
@@ -28,8 +27,7 @@ fn put_row(out: &mut [u8], row: Row)
     let write = row.write;
     let flags = row.flags;
     let change = row.change;
-    put_two(out, row.cycle);
-    put_stages(&mut out[2..], fetch, decode, execute, write);
+    put_begin(out, row.cycle, fetch, decode, execute, write);
     put_end(&mut out[34..], flags, change);
 }
 

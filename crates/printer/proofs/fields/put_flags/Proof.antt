@@ -27,7 +27,10 @@ flag-requires-3 : tie.Need-flag-requires-3
 flag-requires-3 c κs = search needs
 
 slice-write-out-4 : tie.Need-slice-write-out-4
-slice-write-out-4 c = search needs
+slice-write-out-4 c = simp length-set (omega arith)
+
+slice-write-out-5 : tie.Need-slice-write-out-5
+slice-write-out-5 c = search needs
 
 same-length : tie.Need-same-length
 same-length c = search needs
@@ -38,7 +41,7 @@ returns c =
     let c2 = c .before in
     let c1 = c2 .before in
     rw (← (c1 .flag .ensures), ← (c2 .flag2 .ensures), ← (c .flag3 .ensures))
-    (sets-eq (32 ∷ c1 .flag .result ∷ c2 .flag2 .result ∷ c .flag3 .result ∷ []) (c1 .before .before .args .out .now) 0 (omega arith))
+    (sets-eq (32 ∷ c1 .flag .result ∷ c2 .flag2 .result ∷ c .flag3 .result ∷ 32 ∷ []) (c1 .before .before .args .out .now) 0 (omega arith))
 
 pub put-flags-spec : {M : Type 1} → statement M
 put-flags-spec =
@@ -51,5 +54,6 @@ put-flags-spec =
     slice-write-out-3
     flag-requires-3
     slice-write-out-4
+    slice-write-out-5
     same-length
     returns)

@@ -13,8 +13,8 @@ put-hyphens-requires c κs = search needs
 enum-known-stage : tie.Need-enum-known-stage
 enum-known-stage c = search needs
 
-put-seven-requires : tie.Need-put-seven-requires
-put-seven-requires c κs = search needs
+put-hex-requires : tie.Need-put-hex-requires
+put-hex-requires c κs = search needs
 
 same-length : tie.Need-same-length
 same-length c = search needs
@@ -28,7 +28,7 @@ same-length-2 c = search needs
 
 returns-2 : tie.Need-returns-2
 unfolding stageText
-returns-2 c = rw (c .before .before .before .before .before .stage .given .1) (c .before .before .put-seven .ensures)
+returns-2 c = rw (c .before .before .before .before .before .stage .given .1) (c .before .before .put-hex .ensures)
 
 pub put-word-spec : {M : Type 1} → statement M
 put-word-spec =
@@ -37,7 +37,7 @@ put-word-spec =
     enum-told
     put-hyphens-requires
     enum-known-stage
-    put-seven-requires
+    put-hex-requires
     same-length
     returns
     same-length-2
