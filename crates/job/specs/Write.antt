@@ -12,6 +12,7 @@ use Rattle.job.specs.declared.Job.{Job}
 use Rattle.job.specs.declared.Written.{Written}
 use Rattle.job.specs.Layout.{encode}
 
+-- "Every refusal returns its number and zeros elsewhere but for 6's place"; "Success is 0": the number, that place, and the size of what was written
 abbrev pub writtenOf : ℕ → ℕ → ℕ → Written
 writtenOf number place size = record { refusal = number; place = place; size = size }
 
