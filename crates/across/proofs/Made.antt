@@ -5,7 +5,7 @@ use mathlib.Core.Path.{_≡_, ap₂, _∙_}
 use Rattle.halved.specs.Halves.{low, high, join, halves₂}
 use Rattle.register.specs.declared.Register.{Register}
 use Rattle.register.proofs.Made.{same}
-use Rattle.across.specs.Across.{ofLongs}
+use Rattle.given.specs.Across.{ofLongs}
 
 -- a word whose halves are f of the halves of x and y
 pub halves-joined : (f : ℕ → ℕ → ℕ) (x y : ℕ) {h h′ l l′ hi lo r : ℕ}

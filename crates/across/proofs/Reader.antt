@@ -13,7 +13,7 @@ use Rattle.register.specs.declared.Register.{Register}
 use Rattle.register.specs.Layout.{lane, rowOf}
 use Rattle.register.proofs.Held.{Held}
 use Rattle.register.proofs.Lanes.{word-lane, joined-lanes, half-lane, word-by-word}
-use Rattle.across.specs.Across.{words₃, halfwords₂, ofLongs, longs₃}
+use Rattle.given.specs.Across.{words₃, halfwords₂, ofLongs, longs₃}
 
 -- what f gives of numbers of k bits has k bits again
 abbrev pub Keeps : ℕ → (ℕ → ℕ → ℕ → ℕ) → Type 0

@@ -3,9 +3,9 @@
 ghost use mathlib.Core.Path.{_≡_};
 ghost use Prim.Native.Nat.{ℕ};
 ghost use Rattle.halved.specs.Halves.{halves₂};
-ghost use Rattle.signed.specs.Lane.{AHS, SFHS};
-ghost use Rattle.lanes.specs.Lane.{SHRHI, CNTIH};
-ghost use Rattle.across.specs.Across.{words₁, halfwords₂};
+ghost use Rattle.given.specs.Lane.{AHS, SFHS};
+ghost use Rattle.given.specs.Lane.{SHRHI, CNTIH};
+ghost use Rattle.given.specs.Across.{words₁, halfwords₂};
 use register::Register;
 use register::halves::half_of_word;
 use register::halves::join_halfwords;

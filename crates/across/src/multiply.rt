@@ -2,7 +2,7 @@
 
 ghost use mathlib.Core.Path.{_≡_};
 ghost use Rattle.halved.specs.Halves.{half};
-ghost use Rattle.across.specs.Across.{words₃, longs₃, multiplyLane, multiplied};
+ghost use Rattle.given.specs.Across.{words₃, longs₃, multiplyLane, multiplied};
 use register::Register;
 use register::halves::half_of_word;
 use register::halves::join_words;

@@ -2,9 +2,9 @@
 
 ghost use mathlib.Core.Path.{_≡_};
 ghost use Prim.Native.Nat.{ℕ};
-ghost use Rattle.signed.specs.Lane.{MAXWS, MINWS};
-ghost use Rattle.lanes.specs.Lane.{AU, OR, MLHU, MLHCU, AND, CLZW, ROTW, SFWU};
-ghost use Rattle.across.specs.Across.{words₁, words₂};
+ghost use Rattle.given.specs.Lane.{MAXWS, MINWS};
+ghost use Rattle.given.specs.Lane.{AU, OR, MLHU, MLHCU, AND, CLZW, ROTW, SFWU};
+ghost use Rattle.given.specs.Across.{words₁, words₂};
 use register::Register;
 
 pub fn add(a: Register, b: Register) -> Register

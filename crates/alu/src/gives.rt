@@ -6,7 +6,7 @@ ghost use Rattle.register.specs.Layout.{zeroRegister};
 ghost use Rattle.table.specs.Fields.{codeOf};
 ghost use Rattle.table.specs.Operation.{shortRows};
 ghost use Rattle.table.specs.Operation.Operation.{nop};
-ghost use Rattle.alu.specs.Gives.{result, givesOf};
+ghost use Rattle.given.specs.Gives.{result, givesOf};
 use across::halfwords;
 use across::multiply;
 use across::words;

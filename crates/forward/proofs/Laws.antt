@@ -9,7 +9,7 @@ use Rattle.register.specs.declared.Register.{Register}
 use Rattle.table.specs.declared.Pointer.{Pointer}
 use Rattle.table.specs.declared.Target.{Target}
 use Rattle.table.specs.declared.Target.the-variants.{None, To}
-use Rattle.plain.specs.Machine.{stored}
+use Rattle.machine.specs.Machine.{stored}
 use Rattle.model.specs.declared.ExWb.{ExWb}
 use Rattle.model.specs.declared.ExWb.the-variants as EX/WB
 use Rattle.model.specs.Cycle.{afterWB, isTarget, newest}

@@ -6,8 +6,8 @@ use native.Mathlib.Omega.{arith}
 use lib.Count.{leading-of-zero, leading-top}
 use lib.Pow.{low}
 use Rattle.signed.proofs.Integers.{either}
-use Rattle.lanes.specs.Width.{sumModulo, differenceModulo}
-use Rattle.lanes.specs.Lane.{CLZW}
+use Rattle.given.specs.Width.{sumModulo, differenceModulo}
+use Rattle.given.specs.Lane.{CLZW}
 
 remainder : (k q r : ℕ) {n : ℕ} → n ≡ q * 2 ^ k + r → r < 2 ^ k → n % 2 ^ k ≡ r
 remainder k q r e h = ap (λ (n : ℕ). n % 2 ^ k) e ∙ low q k h

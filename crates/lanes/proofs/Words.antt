@@ -8,7 +8,7 @@ use lib.Arith.{digits-lt}
 use lib.Count.{ones, onesIn, ones-step}
 use lib.Pow.{pow-pos, pow-add, split, high, low, shl-lt, shr-le, shr-lt}
 use Rattle.halved.specs.Halves.{join}
-use Rattle.lanes.specs.Width.{rotatedRight}
+use Rattle.given.specs.Width.{rotatedRight}
 
 -- a number of k bits moved right has k bits, also as the high half of k + k
 pub moved-lt : (k n : ℕ) {x : ℕ} → x < 2 ^ k → x / 2 ^ n < 2 ^ k

@@ -1,7 +1,7 @@
 // OR and AND of two words.
 
 ghost use mathlib.Core.Path.{_≡_};
-ghost use Rattle.lanes.specs.Lane.{OR, AND};
+ghost use Rattle.given.specs.Lane.{OR, AND};
 
 pub fn or(a: u32, b: u32) -> u32
     ensures { λ r. ⌜ r ≡ OR a b ⌝ }

@@ -1,7 +1,7 @@
 // CNTIH and CLZW: counts of a word's bits.
 
 ghost use mathlib.Core.Path.{_≡_};
-ghost use Rattle.lanes.specs.Lane.{CNTIH, CLZW};
+ghost use Rattle.given.specs.Lane.{CNTIH, CLZW};
 
 pub fn ones_in_halfwords(w: u32) -> u32
     ensures { λ r. ⌜ r ≡ CNTIH w ⌝ }

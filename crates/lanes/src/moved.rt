@@ -1,7 +1,7 @@
 // SHRHI and ROTW: bits moved to the right. Both reduce the number of places themselves, so they take any number.
 
 ghost use mathlib.Core.Path.{_≡_};
-ghost use Rattle.lanes.specs.Lane.{SHRHI, ROTW};
+ghost use Rattle.given.specs.Lane.{SHRHI, ROTW};
 
 pub fn shift_halfwords_right(w: u32, by: u32) -> u32
     ensures { λ r. ⌜ r ≡ SHRHI w by ⌝ }

@@ -1,7 +1,7 @@
 // MLHU and MLHCU: unsigned products of low halves.
 
 ghost use mathlib.Core.Path.{_≡_};
-ghost use Rattle.lanes.specs.Lane.{MLHU, MLHCU};
+ghost use Rattle.given.specs.Lane.{MLHU, MLHCU};
 
 pub fn multiply_low_halves(a: u32, b: u32) -> u32
     ensures { λ r. ⌜ r ≡ MLHU a b ⌝ }

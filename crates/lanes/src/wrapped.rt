@@ -1,7 +1,7 @@
 // AU and SFWU: words added and subtracted modulo 2^32.
 
 ghost use mathlib.Core.Path.{_≡_};
-ghost use Rattle.lanes.specs.Lane.{AU, SFWU};
+ghost use Rattle.given.specs.Lane.{AU, SFWU};
 
 pub fn add(a: u32, b: u32) -> u32
     ensures { λ r. ⌜ r ≡ AU a b ⌝ }

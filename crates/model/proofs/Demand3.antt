@@ -14,10 +14,10 @@ use lib.Seq.{take-all, length-take-le}
 use Rattle.register.specs.declared.Register.{Register}
 use Rattle.register.specs.Layout.{zeroRegister, rowOf}
 use Rattle.table.specs.Refusal.{DRAINED}
-use Rattle.plain.specs.Machine.{plain, plainRows}
-use Rattle.plain.specs.Answer.{answerOf, executeAllOf}
-use Rattle.plain.proofs.Laws.{all-good}
-use Rattle.plain.proofs.Reader.{registers-as-rows}
+use Rattle.machine.specs.Machine.{plain, plainRows}
+use Rattle.machine.specs.Answer.{answerOf, executeAllOf}
+use Rattle.machine.proofs.Answers.{all-good}
+use Rattle.machine.proofs.Reader.{registers-as-rows}
 use Rattle.job.specs.declared.Job.{Job}
 use Rattle.job.specs.Layout.{instructionsAt}
 use Rattle.job.specs.Read.{readOf}

@@ -14,7 +14,7 @@ use lib.Seq.{take-append-seam, getD-set-same, getD-set-other}
 use Rattle.register.specs.declared.Register.{Register}
 use Rattle.register.specs.Layout.{zeroRegister, wordAt, ofBytes}
 use Rattle.table.specs.Refusal.{DRAINED, firstBad}
-use Rattle.plain.specs.Machine.{plain}
+use Rattle.machine.specs.Machine.{plain}
 use Rattle.job.specs.declared.Job.{Job}
 use Rattle.job.specs.declared.ReadJob.{ReadJob}
 use Rattle.job.specs.Layout.{instructionsAt, twoAt, registersAt, wordsIn, registersOf}

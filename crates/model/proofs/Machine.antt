@@ -18,10 +18,10 @@ use Rattle.table.specs.declared.Target.{Target}
 use Rattle.table.specs.declared.Target.the-variants.{None, To}
 use Rattle.table.specs.Fields.{firstOf, rs2Of, rs3Of, rdOf}
 use Rattle.table.specs.Operation.{operationOf, readsOf, takesFirst, takesSecond, takesThird, isNop, targetOf}
-use Rattle.alu.specs.Gives.{givesOf}
-use Rattle.alu.proofs.Rows.{gate, gives-gated}
-use Rattle.plain.specs.Machine.{stored, stepOn, plainOn, step, plain}
-use Rattle.plain.proofs.Reader.{one-after-another, lone-word}
+use Rattle.given.specs.Gives.{givesOf}
+use Rattle.given.proofs.Rows.{gate, gives-gated}
+use Rattle.machine.specs.Machine.{stored, stepOn, plainOn, step, plain}
+use Rattle.machine.proofs.Reader.{one-after-another, lone-word}
 use Rattle.pipeline.proofs.Stages.{Slot, Stages, Latched, Pipe, Lawful, throughWB, throughEX, throughID, executed, executedAll, late, late-by-three, pipeAt, next-cycle}
 use Rattle.pipeline.proofs.Stages.Slot.{empty, holds}
 use Rattle.model.specs.declared.Operands.{Operands}

@@ -13,8 +13,8 @@ use Rattle.table.specs.declared.Target.{Target}
 use Rattle.table.specs.declared.Target.the-variants.{None, To}
 use Rattle.table.specs.Fields.{firstOf, rs2Of, rs3Of}
 use Rattle.table.specs.Operation.{operationOf, readsOf, takesFirst, takesSecond, takesThird, targetOf}
-use Rattle.alu.specs.Gives.{givesOf}
-use Rattle.plain.specs.Machine.{stored}
+use Rattle.given.specs.Gives.{givesOf}
+use Rattle.machine.specs.Machine.{stored}
 use Rattle.model.specs.declared.Instruction.{Instruction}
 use Rattle.model.specs.declared.Operands.{Operands}
 use Rattle.model.specs.declared.IfId.{IfId}

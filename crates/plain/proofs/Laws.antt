@@ -1,12 +1,10 @@
--- What the code does: a turn of the loop is one word more, the tests of a program come in their order, and a lone word is a program of one line.
+-- The loop: a turn is one word more.
 -- Assumes nothing.
-use Prim.Native.Nat.{ℕ, _+_, _<_, _≤_, _^_}
+use Prim.Native.Nat.{ℕ, _+_, _<_, _≤_}
 use mathlib.Core.Path.{_≡_, refl, sym, ap, _∙_}
 use mathlib.Core.Bool.{Bool, true, false, cond}
-use mathlib.Core.List.{List, [], _∷_}
+use mathlib.Core.List.{List, []}
 use native.Mathlib.Numerals.{add-one}
-use borrow.Author.Tests.{lt-ltb, le-ltb}
-use lib.Dec.{ltb}
 use lib.ListN.{getD, set, length, drop, drop-of-length-le}
 use lib.Seq.{drop-cons, set-getD}
 use Rattle.register.specs.declared.Register.{Register}
@@ -15,14 +13,11 @@ use Rattle.table.specs.declared.Pointer.{Pointer}
 use Rattle.table.specs.declared.Target.the-variants.{None, To}
 use Rattle.table.specs.Fields.{firstOf, rs2Of, rs3Of, rdOf}
 use Rattle.table.specs.Operation.{isNop, targetOf}
-use Rattle.table.specs.Refusal.{COUNT, WORD, firstBad}
-use Rattle.alu.specs.Gives.{givesOf}
-use Rattle.plain.specs.Machine.{stored, valueOn, stepOn, plainOn, stepRows, plainRows}
-use Rattle.plain.specs.Answer.{answerOf, executeOf, executeAllOf}
+use Rattle.given.specs.Gives.{givesOf}
+use Rattle.machine.specs.Machine.{stored, valueOn, stepOn, plainOn, plainRows}
 use Rattle.plain.specs.Inside.{chosen}
 
--- ---- the loop: the program from i on
-
+-- the program from i on
 module _ {A : Type 0} (read : A → Register) (make : Register → A) (none : A) where
   pub next-word : (p : List ℕ) (i : ℕ) (f : List A) → i < length p
       → plainOn read make none (drop i p) f ≡ plainOn read make none (drop (i + 1) p) (stepOn read make none (getD p i 0) f)
@@ -65,31 +60,3 @@ turn p i f {d = d} h e1 f1 e2 f2 e3 f3 e4 f4 g =
     ∙ (λ j. set f (ed j) (left-by w f (ea j) (eb j) (ec j) (ed j)))
     ∙ stored-at-rd w (valueOn ofRow rowOf [] w f) [] f)
     ∙ sym (next-word ofRow rowOf [] p i f h)
-
--- ---- the answer
-
--- the tests of a program in their order; k is what the code has for the first bad place
-module _ (p : List ℕ) (f : List (List ℕ)) where
-  pub too-many : 64 < length p → answerOf COUNT 0 f ≡ executeAllOf p f
-  unfolding executeAllOf
-  too-many h = rw (lt-ltb _ _ h)
-
-  module _ (few : length p ≤ 64) {k : ℕ} (first : k ≡ firstBad p) where
-    pub bad-word : k < length p → answerOf WORD k f ≡ executeAllOf p f
-    unfolding executeAllOf
-    bad-word h = rw (le-ltb _ _ few, ← first, lt-ltb _ _ h)
-
-    pub all-good : length p ≤ k → answerOf 0 0 (plainRows p f) ≡ executeAllOf p f
-    unfolding executeAllOf
-    all-good h = rw (le-ltb _ _ few, ← first, le-ltb _ _ h)
-
--- a program of one line answers as the lone word does
-pub one-line : (w : ℕ) (f : List (List ℕ)) → executeAllOf (w ∷ []) f ≡ executeOf w f
-unfolding executeAllOf executeOf firstBad plainOn
-one-line w f = go (ltb w (2 ^ 25))
-  where
-    go : (t : Bool)
-        → cond (ltb (cond t 1 0) 1) (answerOf WORD (cond t 1 0) f) (answerOf 0 0 (stepRows w f))
-        ≡ cond t (answerOf 0 0 (stepRows w f)) (answerOf WORD 0 f)
-    go true = refl
-    go false = refl

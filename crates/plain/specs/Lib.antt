@@ -1,3 +1,1 @@
-pub mod Machine
-pub mod Answer
 pub mod Inside

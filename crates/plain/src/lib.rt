@@ -3,23 +3,18 @@
 ghost use mathlib.Core.Path.{_≡_};
 ghost use Rattle.register.specs.Layout.{rowOf, ofRow};
 ghost use Rattle.table.specs.Operation.{targetOf};
-ghost use Rattle.alu.specs.Gives.{givesOf};
-ghost use Rattle.plain.specs.Machine.{plainRows};
-ghost use Rattle.plain.specs.Answer.{answerOf, executeOf, executeAllOf};
+ghost use Rattle.given.specs.Gives.{givesOf};
+ghost use Rattle.machine.specs.Machine.{plainRows};
+ghost use Rattle.machine.specs.Answer.{answerOf, executeOf, executeAllOf};
 ghost use Rattle.plain.specs.Inside.{chosen};
 use alu::gives;
+pub use machine::Executed;
 use register::Register;
 use table::Pointer;
 use table::Target;
 use table::fields;
 use table::refusal;
 use table::writes;
-
-pub struct Executed {
-    pub refusal: u32,
-    pub place: usize,
-    pub file: [[u32; 4]; 32],
-}
 
 // The literal of a struct with a field that is an array of arrays, and the read of that field: the two forms that are proved by hand.
 fn answer(refusal: u32, place: usize, file: [[u32; 4]; 32]) -> Executed

@@ -11,6 +11,7 @@ mod fields;
 
 use crate::fields::put_begin;
 use crate::fields::put_end;
+use room::has_room;
 use row::Row;
 use table::refusal;
 
@@ -31,16 +32,12 @@ fn put_row(out: &mut [u8], row: Row)
     put_end(&mut out[34..], flags, change);
 }
 
-// Any start: the room behind it is tested without adding to it.
 pub fn write_row(buffer: &mut [u8], start: usize, row: Row) -> u32
     ensures { λ r. ⌜ (r, now (buffer .exit)) ≡ rowAt row start (now (buffer .entry)) ⌝ }
 {
-    if buffer.len() < ROW_SIZE {
-        return refusal::ROOM;
+    if has_room(buffer.len(), start, ROW_SIZE) {
+        put_row(&mut buffer[start..], row);
+        return 0;
     }
-    if buffer.len() - ROW_SIZE < start {
-        return refusal::ROOM;
-    }
-    put_row(&mut buffer[start..], row);
-    0
+    refusal::ROOM
 }

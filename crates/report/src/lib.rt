@@ -16,7 +16,11 @@ use crate::rows::put_rows;
 use counts::last;
 use model::Unit;
 use printer::ROW_SIZE;
+use room::has_room;
 use table::refusal;
+
+// The bytes of a line of END.
+const END_SIZE: usize = 7;
 
 // How a text was put: 0 and its size, or the number that it is refused with.
 pub struct Reported {
@@ -37,11 +41,11 @@ fn refused(out: &mut [u8], number: u32) -> Reported
     ensures { λ r. ⌜ (r, now (out .exit)) ≡ putOf (refusedText number) (now (out .entry)) ⌝ }
 {
     let size = refused_size(number);
-    if out.len() < size {
-        return no_room();
+    if has_room(out.len(), 0, size) {
+        put_refused(out, number);
+        return Reported { refusal: 0, size };
     }
-    put_refused(out, number);
-    Reported { refusal: 0, size }
+    no_room()
 }
 
 fn trace(out: &mut [u8], u: Unit) -> Reported
@@ -51,15 +55,15 @@ fn trace(out: &mut [u8], u: Unit) -> Reported
     let n = u.n;
     let cycles = last(n) - u.cycle;
     let end = ROW_SIZE * cycles as usize;
-    if out.len() < end + 7 {
-        return no_room();
+    if has_room(out.len(), end, END_SIZE) {
+        put_rows(out, u, cycles);
+        put_end(&mut out[end..], cycles);
+        return Reported {
+            refusal: 0,
+            size: end + END_SIZE,
+        };
     }
-    put_rows(out, u, cycles);
-    put_end(&mut out[end..], cycles);
-    Reported {
-        refusal: 0,
-        size: end + 7,
-    }
+    no_room()
 }
 
 pub fn report(file: &[u8], out: &mut [u8]) -> Reported

@@ -15,7 +15,7 @@ use Rattle.table.specs.declared.Target.{Target}
 use Rattle.table.specs.declared.Target.the-variants.{None, To as ToRegister}
 use Rattle.table.specs.Fields.{isLi, rdOf, firstOf, rs2Of, rs3Of}
 use Rattle.table.specs.Operation.{Operation, operationOf, readsOf, takesSecond, takesThird, isNop, targetOf}
-use Rattle.plain.specs.Machine.{stored, plain}
+use Rattle.machine.specs.Machine.{stored, plain}
 use Rattle.job.specs.Layout.{instructionsAt}
 use Rattle.job.specs.Read.{readOf}
 use Rattle.job.specs.Write.{programOf}

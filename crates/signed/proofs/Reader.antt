@@ -5,7 +5,7 @@ use mathlib.Core.Path.{_≡_, sym, ap, _∙_}
 use native.Mathlib.Omega.{arith}
 use lib.IntN.{ℤ, pos, negsuc}
 use lib.Pow.{pow-pos}
-use Rattle.signed.specs.Width.{signed, bits, least, greatest, within, clamped}
+use Rattle.given.specs.Width.{signed, bits, least, greatest, within, clamped}
 use Rattle.signed.proofs.Integers.{either, sub-neg}
 use Rattle.signed.proofs.Signed.{double, bounds, signed-low, signed-high, inside-pos, inside-neg, above, beneath}
 

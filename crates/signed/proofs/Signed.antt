@@ -12,7 +12,7 @@ use lib.Dec.{ltb, lit<}
 use lib.IntN.{ℤ, pos, negsuc, subℕ, _+ℤ_, _-ℤ_}
 use lib.Pow.{pow-pos, pow-mono, shl-exact}
 use lib.Signed.{ltZ}
-use Rattle.signed.specs.Width.{signed, bits, least, greatest, within, clamped}
+use Rattle.given.specs.Width.{signed, bits, least, greatest, within, clamped}
 use Rattle.signed.specs.Inside.{withSign, turned, raised}
 use Rattle.signed.proofs.Integers.{either, sub-pos, sub-neg, sub-same, sub-plus, sub-minus, pos-minus, neg-pos, sub-order}
 

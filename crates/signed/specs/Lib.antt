@@ -1,3 +1,1 @@
-pub mod Width
-pub mod Lane
 pub mod Inside

@@ -1,7 +1,7 @@
 // The clamping lanes: multiply-add and multiply-subtract with halves of 16 or 32 bits, and AHS and SFHS.
 
 ghost use mathlib.Core.Path.{_≡_};
-ghost use Rattle.signed.specs.Lane.{multiplyAdd, multiplySubtract, AHS, SFHS};
+ghost use Rattle.given.specs.Lane.{multiplyAdd, multiplySubtract, AHS, SFHS};
 use crate::sign::clamped_sum;
 use crate::sign::product;
 use crate::sign::sign_and_size;

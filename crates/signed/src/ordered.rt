@@ -2,8 +2,8 @@
 
 ghost use mathlib.Core.Path.{_≡_};
 ghost use lib.Signed.{ltZ};
-ghost use Rattle.signed.specs.Width.{signed};
-ghost use Rattle.signed.specs.Lane.{MAXWS, MINWS};
+ghost use Rattle.given.specs.Width.{signed};
+ghost use Rattle.given.specs.Lane.{MAXWS, MINWS};
 use crate::sign::turn;
 
 fn less(a: u32, b: u32) -> bool

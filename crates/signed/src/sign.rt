@@ -4,7 +4,7 @@
 ghost use mathlib.Core.Path.{_≡_};
 ghost use Prim.Native.Nat.{_-_, _≤_, _<_, _^_};
 ghost use lib.IntN.{_+ℤ_, _*ℤ_};
-ghost use Rattle.signed.specs.Width.{signed, clamped};
+ghost use Rattle.given.specs.Width.{signed, clamped};
 ghost use Rattle.signed.specs.Inside.{withSign, turned, raised};
 
 // An exact integer, by its sign and its size.

@@ -4,7 +4,7 @@ use mathlib.Core.Path.{_≡_, refl, sym, _∙_}
 use native.Mathlib.Omega.{arith}
 use borrow.Author.Needs.{needs}
 use lib.ListN.{length, drop}
-use Rattle.plain.specs.Machine.{plainRows}
+use Rattle.machine.specs.Machine.{plainRows}
 use Rattle.plain.proofs.Laws as laws
 use Rattle.plain.proofs.run.Statement.{statement}
 use Rattle.plain.proofs.run.Tie as tie

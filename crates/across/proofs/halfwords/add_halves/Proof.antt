@@ -1,6 +1,6 @@
 -- Carried by `halves-joined`.
 use borrow.Author.Needs.{needs}
-use Rattle.signed.specs.Lane.{AHS}
+use Rattle.given.specs.Lane.{AHS}
 use Rattle.across.proofs.Made as made
 use Rattle.across.proofs.halfwords.add_halves.Statement.{statement}
 use Rattle.across.proofs.halfwords.add_halves.Tie as tie

@@ -1,6 +1,6 @@
 -- Carried by `halves-joined`.
 use borrow.Author.Needs.{needs}
-use Rattle.signed.specs.Lane.{SFHS}
+use Rattle.given.specs.Lane.{SFHS}
 use Rattle.across.proofs.Made as made
 use Rattle.across.proofs.halfwords.subtract_halves_from.Statement.{statement}
 use Rattle.across.proofs.halfwords.subtract_halves_from.Tie as tie

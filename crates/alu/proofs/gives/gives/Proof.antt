@@ -1,6 +1,6 @@
 -- Carried by `li-gives`, `multiply-gives` and `short-gives`.
 use borrow.Author.Needs.{needs}
-use Rattle.alu.proofs.Rows as rows
+use Rattle.given.proofs.Rows as rows
 use Rattle.alu.proofs.gives.gives.Statement.{statement}
 use Rattle.alu.proofs.gives.gives.Tie as tie
 

@@ -1,8 +1,8 @@
 -- Carried by `short-row`: in each arm the code is that row's.
 use mathlib.Core.Path.{refl}
 use borrow.Author.Needs.{needs}
-use Rattle.alu.specs.Gives.{result}
-use Rattle.alu.proofs.Rows as rows
+use Rattle.given.specs.Gives.{result}
+use Rattle.given.proofs.Rows as rows
 use Rattle.alu.proofs.gives.short_gives.Statement.{statement}
 use Rattle.alu.proofs.gives.short_gives.Tie as tie
 

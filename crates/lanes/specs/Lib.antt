@@ -1,2 +1,0 @@
-pub mod Width
-pub mod Lane
