@@ -1,7 +1,7 @@
 -- For the public function: no second answer and no second buffer fits its contract, since the contract is one equation of both.
 -- Assumes nothing.
 use Prim.Native.Nat.{ℕ}
-use mathlib.Core.Path.{refl, sym, ap, _∙_}
+use mathlib.Core.Path.{sym, ap, _∙_}
 use mathlib.Core.List.{List}
 use Rattle.determined.specs.Determined.{Determined}
 use Rattle.model.specs.declared.Cycled.{Cycled}

@@ -1,6 +1,5 @@
 -- Carried by the contract of `flag`, at what the table says is read.
 use borrow.Author.Needs.{needs}
-use Rattle.says.proofs.flags_for.Reads as reads
 use Rattle.says.proofs.flags_for.Statement.{statement}
 use Rattle.says.proofs.flags_for.Tie as tie
 

@@ -1,5 +1,5 @@
 -- Carried by `then-front`: the right half at the front of the part behind the left one.
-use mathlib.Core.Path.{refl, ap, _∙_}
+use mathlib.Core.Path.{refl}
 use mathlib.Core.List.{_++_}
 use borrow.Author.Needs.{needs}
 use Rattle.front.proofs.Parts.{then-front}
