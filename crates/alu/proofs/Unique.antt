@@ -1,9 +1,89 @@
--- For the public function: no second answer fits its contract, since the contract is one equation.
+-- For every public function: no second answer fits its contract, since the contract is one equation.
 -- Assumes nothing.
 use mathlib.Core.Path.{refl, sym, _∙_}
 use Rattle.determined.specs.Determined.{Determined}
-use Rattle.alu.proofs.gives.gives.Kinds as gives-kinds
-use Rattle.alu.proofs.gives.gives.Reads as gives-reads
+use Rattle.alu.proofs.multiply.multiply.Kinds as multiply-kinds
+use Rattle.alu.proofs.multiply.multiply.Reads as multiply-reads
+use Rattle.alu.proofs.halfwords.shift_right.Kinds as shift-right-kinds
+use Rattle.alu.proofs.halfwords.shift_right.Reads as shift-right-reads
+use Rattle.alu.proofs.halfwords.ones.Kinds as ones-kinds
+use Rattle.alu.proofs.halfwords.ones.Reads as ones-reads
+use Rattle.alu.proofs.halfwords.add_clamped.Kinds as add-clamped-kinds
+use Rattle.alu.proofs.halfwords.add_clamped.Reads as add-clamped-reads
+use Rattle.alu.proofs.halfwords.subtract_from_clamped.Kinds as subtract-from-clamped-kinds
+use Rattle.alu.proofs.halfwords.subtract_from_clamped.Reads as subtract-from-clamped-reads
+use Rattle.alu.proofs.words.add.Kinds as add-kinds
+use Rattle.alu.proofs.words.add.Reads as add-reads
+use Rattle.alu.proofs.words.or.Kinds as or-kinds
+use Rattle.alu.proofs.words.or.Reads as or-reads
+use Rattle.alu.proofs.words.broadcast.Kinds as broadcast-kinds
+use Rattle.alu.proofs.words.broadcast.Reads as broadcast-reads
+use Rattle.alu.proofs.words.larger.Kinds as larger-kinds
+use Rattle.alu.proofs.words.larger.Reads as larger-reads
+use Rattle.alu.proofs.words.smaller.Kinds as smaller-kinds
+use Rattle.alu.proofs.words.smaller.Reads as smaller-reads
+use Rattle.alu.proofs.words.multiply_low_halves.Kinds as multiply-low-halves-kinds
+use Rattle.alu.proofs.words.multiply_low_halves.Reads as multiply-low-halves-reads
+use Rattle.alu.proofs.words.multiply_low_halves_by.Kinds as multiply-low-halves-by-kinds
+use Rattle.alu.proofs.words.multiply_low_halves_by.Reads as multiply-low-halves-by-reads
+use Rattle.alu.proofs.words.and.Kinds as and-kinds
+use Rattle.alu.proofs.words.and.Reads as and-reads
+use Rattle.alu.proofs.words.leading_zeros.Kinds as leading-zeros-kinds
+use Rattle.alu.proofs.words.leading_zeros.Reads as leading-zeros-reads
+use Rattle.alu.proofs.words.rotate_right.Kinds as rotate-right-kinds
+use Rattle.alu.proofs.words.rotate_right.Reads as rotate-right-reads
+use Rattle.alu.proofs.words.subtract_from.Kinds as subtract-from-kinds
+use Rattle.alu.proofs.words.subtract_from.Reads as subtract-from-reads
+use Rattle.alu.proofs.result.Kinds as result-kinds
+use Rattle.alu.proofs.result.Reads as result-reads
 
-pub gives-unique : Determined 0 gives-kinds.ps gives-kinds.r gives-reads.Post
-gives-unique κs a x y v w p q = (p ∙ sym q, refl)
+pub multiply-unique : Determined 0 multiply-kinds.ps multiply-kinds.r multiply-reads.Post
+multiply-unique κs a x y v w p q = (p ∙ sym q, refl)
+
+pub shift-right-unique : Determined 0 shift-right-kinds.ps shift-right-kinds.r shift-right-reads.Post
+shift-right-unique κs a x y v w p q = (p ∙ sym q, refl)
+
+pub ones-unique : Determined 0 ones-kinds.ps ones-kinds.r ones-reads.Post
+ones-unique κs a x y v w p q = (p ∙ sym q, refl)
+
+pub add-clamped-unique : Determined 0 add-clamped-kinds.ps add-clamped-kinds.r add-clamped-reads.Post
+add-clamped-unique κs a x y v w p q = (p ∙ sym q, refl)
+
+pub subtract-from-clamped-unique : Determined 0 subtract-from-clamped-kinds.ps subtract-from-clamped-kinds.r subtract-from-clamped-reads.Post
+subtract-from-clamped-unique κs a x y v w p q = (p ∙ sym q, refl)
+
+pub add-unique : Determined 0 add-kinds.ps add-kinds.r add-reads.Post
+add-unique κs a x y v w p q = (p ∙ sym q, refl)
+
+pub or-unique : Determined 0 or-kinds.ps or-kinds.r or-reads.Post
+or-unique κs a x y v w p q = (p ∙ sym q, refl)
+
+pub broadcast-unique : Determined 0 broadcast-kinds.ps broadcast-kinds.r broadcast-reads.Post
+broadcast-unique κs a x y v w p q = (p ∙ sym q, refl)
+
+pub larger-unique : Determined 0 larger-kinds.ps larger-kinds.r larger-reads.Post
+larger-unique κs a x y v w p q = (p ∙ sym q, refl)
+
+pub smaller-unique : Determined 0 smaller-kinds.ps smaller-kinds.r smaller-reads.Post
+smaller-unique κs a x y v w p q = (p ∙ sym q, refl)
+
+pub multiply-low-halves-unique : Determined 0 multiply-low-halves-kinds.ps multiply-low-halves-kinds.r multiply-low-halves-reads.Post
+multiply-low-halves-unique κs a x y v w p q = (p ∙ sym q, refl)
+
+pub multiply-low-halves-by-unique : Determined 0 multiply-low-halves-by-kinds.ps multiply-low-halves-by-kinds.r multiply-low-halves-by-reads.Post
+multiply-low-halves-by-unique κs a x y v w p q = (p ∙ sym q, refl)
+
+pub and-unique : Determined 0 and-kinds.ps and-kinds.r and-reads.Post
+and-unique κs a x y v w p q = (p ∙ sym q, refl)
+
+pub leading-zeros-unique : Determined 0 leading-zeros-kinds.ps leading-zeros-kinds.r leading-zeros-reads.Post
+leading-zeros-unique κs a x y v w p q = (p ∙ sym q, refl)
+
+pub rotate-right-unique : Determined 0 rotate-right-kinds.ps rotate-right-kinds.r rotate-right-reads.Post
+rotate-right-unique κs a x y v w p q = (p ∙ sym q, refl)
+
+pub subtract-from-unique : Determined 0 subtract-from-kinds.ps subtract-from-kinds.r subtract-from-reads.Post
+subtract-from-unique κs a x y v w p q = (p ∙ sym q, refl)
+
+pub result-unique : Determined 0 result-kinds.ps result-kinds.r result-reads.Post
+result-unique κs a x y v w p q = (p ∙ sym q, refl)

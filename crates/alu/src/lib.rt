@@ -1,3 +1,63 @@
-// What each instruction of the table gives from its operands.
+// What each instruction of the table gives from its operands: the lane operations across whole registers, and the result of a word.
 
-pub mod gives;
+ghost use mathlib.Core.Path.{_≡_};
+ghost use lib.ListN.{getD};
+ghost use Rattle.register.specs.Layout.{zeroRegister};
+ghost use Rattle.table.specs.Fields.{codeOf};
+ghost use Rattle.table.specs.Operation.{shortRows};
+ghost use Rattle.table.specs.Operation.Operation.{nop};
+ghost use Rattle.alu_rules.specs.Result.{result, resultOf};
+
+pub mod halfwords;
+pub mod multiply;
+pub mod words;
+
+use crate::multiply::multiply;
+use register::Register;
+use table::fields::code;
+use table::fields::constant;
+use table::fields::immediate;
+use table::fields::index;
+use table::fields::is_high;
+use table::fields::is_li;
+use table::fields::is_long;
+use table::fields::is_multiply;
+use table::fields::is_subtract;
+
+// The sixteen short codes, none of which has a third operand.
+fn short_result(w: u32, rs1: Register, rs2: Register) -> Register
+    ensures { λ r. ⌜ r ≡ result (getD shortRows (codeOf w) nop) w rs1 rs2 zeroRegister ⌝ }
+{
+    let code = code(w);
+    match code {
+        0 => Register::ZERO,
+        1 => halfwords::shift_right(rs1, constant(w)),
+        2 => words::add(rs1, rs2),
+        3 => halfwords::ones(rs1),
+        4 => halfwords::add_clamped(rs1, rs2),
+        5 => words::or(rs1, rs2),
+        6 => words::broadcast(rs1),
+        7 => words::larger(rs1, rs2),
+        8 => words::smaller(rs1, rs2),
+        9 => words::multiply_low_halves(rs1, rs2),
+        10 => words::multiply_low_halves_by(rs1, constant(w)),
+        11 => words::and(rs1, rs2),
+        12 => words::leading_zeros(rs1),
+        13 => words::rotate_right(rs1, rs2),
+        14 => words::subtract_from(rs1, rs2),
+        _ => halfwords::subtract_from_clamped(rs1, rs2),
+    }
+}
+
+// The result of a word. An operand that the table says is not read has no effect.
+pub fn result(w: u32, rs1: Register, rs2: Register, rs3: Register) -> Register
+    ensures { λ r. ⌜ r ≡ resultOf w rs1 rs2 rs3 ⌝ }
+{
+    if is_li(w) {
+        return rs1.with_halfword(index(w), immediate(w));
+    }
+    if is_multiply(w) {
+        return multiply(is_long(w), is_subtract(w), is_high(w), rs1, rs2, rs3);
+    }
+    short_result(w, rs1, rs2)
+}

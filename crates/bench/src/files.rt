@@ -14,7 +14,7 @@ const FILL: u8 = 0xEE;
 
 // A refused start leaves a unit that is halfway through another job as it was.
 fn print_answers(file: &[u8]) {
-    let read = reader::read_job(file);
+    let read = job_reader::read_job(file);
     form(texts::READ, read.refusal as usize, read.place, 0);
     form(texts::READ_COUNTS, read.job.n.0 as usize, read.job.r, 0);
     units::print_start(units::sample_after(2), file);
@@ -59,7 +59,7 @@ fn print_written(words: &[u32], bytes: usize, room: usize)
 {
     let registers = [0u8; 528];
     let mut out = [FILL; ROOM];
-    let written = writer::write_job(words, &registers[0..bytes], &mut out[0..room]);
+    let written = job_writer::write_job(words, &registers[0..bytes], &mut out[0..room]);
     form(
         texts::WRITTEN,
         written.refusal as usize,

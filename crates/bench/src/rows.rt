@@ -7,13 +7,13 @@ use crate::texts;
 use crate::texts::form;
 use crate::texts::text;
 use crate::units;
-use model::Unit;
 use register::Register;
-use row::Change;
-use row::Flags;
-use row::Row;
-use row::Stage;
+use row_rules::Change;
+use row_rules::Flags;
+use row_rules::Row;
+use row_rules::Stage;
 use table::Pointer;
+use unit_rules::Unit;
 
 // A byte that stands in no row.
 const FILL: u8 = b'.';
@@ -43,7 +43,7 @@ fn print_row(room: usize, start: usize)
 {
     let mut buffer = [FILL; ROOM];
     let row = full_row();
-    let answer = printer::write_row(&mut buffer[0..room], start, row);
+    let answer = row::write_row(&mut buffer[0..room], start, row);
     form(texts::ROW, room, start, answer as usize);
     print::altered(&buffer, FILL);
     text(texts::LINE_END);
@@ -53,7 +53,7 @@ pub(crate) fn print_cycle(u: Unit, room: usize, start: usize)
     requires { ⌜ room ≤ 800 ⌝ }
 {
     let mut buffer = [FILL; ROOM];
-    let cycled = traced::cycle_with_row(u, &mut buffer[0..room], start);
+    let cycled = trace_row::cycle_with_row(u, &mut buffer[0..room], start);
     form(texts::CYCLE_WITH_ROW, room, start, cycled.refusal as usize);
     print::altered(&buffer, FILL);
     print::unit(cycled.unit.n.0, cycled.unit.cycle);

@@ -6,12 +6,12 @@ use crate::rows::LARGEST_START;
 use crate::texts;
 use crate::texts::form;
 use crate::texts::text;
-use model::ExWb;
-use model::IdEx;
-use model::IfId;
-use model::Unit;
 use register::Register;
 use table::Count;
+use unit_rules::ExWb;
+use unit_rules::IdEx;
+use unit_rules::IfId;
+use unit_rules::Unit;
 
 // The rules' first job: li 5 into halfword 0 of register 1; AU of register 1 with itself into 2. It has two lines, so it is drained after five cycles.
 const SAMPLE: [u8; 16] = [
@@ -158,7 +158,7 @@ fn print_well_made() {
 
 fn print_ill_made() {
     let empty = IfId::Empty;
-    let full = IfId::Holds(fetch::instruction(0xA1));
+    let full = IfId::Holds(unit_record::latches::instruction(0xA1));
     print_calls(texts::WITH_CYCLE_1, unit_with(0, 0, 1, 0, empty));
     print_calls(texts::WITH_65_LINES, unit_with(65, 0, 0, 0, empty));
     print_calls(texts::WITH_COUNT_1, unit_with(0, 1, 0, 0, empty));

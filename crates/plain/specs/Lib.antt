@@ -1,1 +1,1 @@
-pub mod Inside
+pub mod Chosen

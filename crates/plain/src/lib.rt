@@ -3,12 +3,12 @@
 ghost use mathlib.Core.Path.{_≡_};
 ghost use Rattle.register.specs.Layout.{rowOf, ofRow};
 ghost use Rattle.table.specs.Operation.{targetOf};
-ghost use Rattle.given.specs.Gives.{givesOf};
-ghost use Rattle.machine.specs.Machine.{plainRows};
-ghost use Rattle.machine.specs.Answer.{answerOf, executeOf, executeAllOf};
-ghost use Rattle.plain.specs.Inside.{chosen};
-use alu::gives;
-pub use machine::Executed;
+ghost use Rattle.alu_rules.specs.Result.{resultOf};
+ghost use Rattle.plain_rules.specs.Machine.{plainRows};
+ghost use Rattle.plain_rules.specs.Answer.{answerOf, executeOf, executeAllOf};
+ghost use Rattle.plain.specs.Chosen.{chosen};
+use alu::result;
+pub use plain_rules::Executed;
 use register::Register;
 use table::Pointer;
 use table::Target;
@@ -40,17 +40,17 @@ fn place_of(p: Pointer) -> usize
 }
 
 fn new_row(word: u32, a: [u32; 4], b: [u32; 4], c: [u32; 4]) -> [u32; 4]
-    ensures { λ r. ⌜ r ≡ rowOf (givesOf word (ofRow a) (ofRow b) (ofRow c)) ⌝ }
+    ensures { λ r. ⌜ r ≡ rowOf (resultOf word (ofRow a) (ofRow b) (ofRow c)) ⌝ }
 {
     let rs1 = Register::from_row(a);
     let rs2 = Register::from_row(b);
     let rs3 = Register::from_row(c);
-    gives::gives(word, rs1, rs2, rs3).to_row()
+    result(word, rs1, rs2, rs3).to_row()
 }
 
 // A word that writes nothing leaves the row of its rd as it was.
 fn row_after(word: u32, a: [u32; 4], b: [u32; 4], c: [u32; 4], old: [u32; 4]) -> [u32; 4]
-    ensures { λ r. ⌜ r ≡ chosen (targetOf word) (rowOf (givesOf word (ofRow a) (ofRow b) (ofRow c))) old ⌝ }
+    ensures { λ r. ⌜ r ≡ chosen (targetOf word) (rowOf (resultOf word (ofRow a) (ofRow b) (ofRow c))) old ⌝ }
 {
     let target = writes::target_of(word);
     match target {

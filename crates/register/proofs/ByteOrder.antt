@@ -7,7 +7,7 @@ use native.Mathlib.Omega.{arith}
 use lib.ListN.{length, getD, drop}
 use lib.Pow.{shr-shr}
 use lib.Seq.{drop-cons, drop-length}
-use Rattle.halved.specs.Halves.{join}
+use Rattle.register.specs.Halves.{join}
 use Rattle.register.specs.Layout.{wordOfBytes, bytesOfWord, wordAt}
 use Rattle.register.proofs.Lanes.{value, Digits, digit-at}
 

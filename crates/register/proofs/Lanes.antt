@@ -11,10 +11,10 @@ use borrow.Author.Tests.{eqb-true, eqb-false}
 use lib.Dec.{eqb}
 use lib.ListN.{getD, List·getD-eq-default}
 use lib.Pow as pow
-use Rattle.halved.specs.Halves.{low, high, half, join}
+use Rattle.register.specs.Halves.{low, high, half, join}
 use Rattle.register.specs.declared.Register.{Register}
 use Rattle.register.specs.Layout.{number, lane, rowOf}
-use Rattle.register.proofs.Held.{Held}
+use Rattle.register.proofs.WordBounds.{Held}
 
 -- ---- numbers in digits of k bits, the lowest first
 

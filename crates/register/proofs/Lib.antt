@@ -1,6 +1,7 @@
-pub mod Held
-pub mod Made
+pub mod Joined
+pub mod WordBounds
+pub mod Equality
 pub mod Lanes
 pub mod ByteOrder
-pub mod Reader
+pub mod Theorems
 pub mod Unique

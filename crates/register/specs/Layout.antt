@@ -5,7 +5,7 @@ use mathlib.Core.Bool.{cond}
 use mathlib.Core.List.{List, [], _∷_}
 use lib.Dec.{eqb}
 use lib.ListN.{getD}
-use Rattle.halved.specs.Halves.{low, high, join}
+use Rattle.register.specs.Halves.{low, high, join}
 use Rattle.register.specs.declared.Register.{Register}
 
 -- "Bit 127 is leftmost": the 128 bits as one number, word 3 leftmost

@@ -2,7 +2,7 @@
 
 ghost use mathlib.Core.Path.{_≡_};
 ghost use Prim.Native.Nat.{_<_};
-ghost use Rattle.halved.specs.Halves.{half, join};
+ghost use Rattle.register.specs.Halves.{half, join};
 ghost use Rattle.register.specs.Layout.{withHalf};
 
 pub fn half_of_word(w: u32, high: bool) -> u16

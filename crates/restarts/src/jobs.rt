@@ -1,8 +1,8 @@
 // Units that are started with the job files, and so many cycles of one.
 
 ghost use Rattle.io.specs.Counts.{Counts};
-use job::LARGEST;
-use model::Unit;
+use job_writer::LARGEST;
+use unit_rules::Unit;
 
 // A file that cannot be opened counts as empty, which no job is: its start is refused.
 pub(crate) fn read_file(name: &[u8], room: &mut [u8]) -> usize

@@ -1,16 +1,16 @@
 // The rows of a unit until it refuses a cycle, and its registers.
 
 use libc::STDOUT_FILENO;
-use model::Unit;
-use printer::ROW_SIZE;
-use printer::digits;
 use register::Register;
-use row::Change;
-use row::Flags;
-use row::Row;
-use row::Stage;
+use row::ROW_SIZE;
+use row::digits;
+use row_rules::Change;
+use row_rules::Flags;
+use row_rules::Row;
+use row_rules::Stage;
 use table::Pointer;
 use table::refusal;
+use unit_rules::Unit;
 
 // No job has more than 67 cycles, so a unit that is asked for so many rows refuses one of them.
 const MOST_ROWS: u32 = 68;
@@ -57,7 +57,7 @@ fn written(number: u8, value: Register) -> Row {
 fn print_register(number: u8, value: Register) {
     let mut line = [0u8; ROW_SIZE];
     let row = written(number, value);
-    printer::write_row(&mut line, 0, row);
+    row::write_row(&mut line, 0, row);
     io::write_all(STDOUT_FILENO, &line[REGISTER_AT..]);
 }
 
@@ -85,7 +85,7 @@ pub(crate) fn print_rows(mut u: Unit) {
     let mut rows = 0;
     let mut refusal = 0;
     while rows < MOST_ROWS {
-        let cycled = traced::cycle_with_row(u, &mut line, 0);
+        let cycled = trace_row::cycle_with_row(u, &mut line, 0);
         refusal = cycled.refusal;
         if refusal != 0 {
             break;

@@ -1,2 +1,4 @@
-pub mod Lengths
-pub mod Reader
+pub mod Stores
+pub mod Pieces
+pub mod RowWritten
+pub mod Unique

@@ -1,4 +1,4 @@
 pub mod Rows
 pub mod Places
-pub mod Reader
+pub mod Theorems
 pub mod Unique

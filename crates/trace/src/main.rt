@@ -3,10 +3,10 @@
 mod input;
 
 use crate::input::read_to_end;
-use job::LARGEST;
+use job_writer::LARGEST;
 use libc::STDIN_FILENO;
 use libc::STDOUT_FILENO;
-use printer::ROW_SIZE;
+use row::ROW_SIZE;
 
 // One byte more than any job has: a longer file is answered as its first so many bytes are.
 const FILE_ROOM: usize = LARGEST + 1;
@@ -16,7 +16,7 @@ const TEXT_ROOM: usize = ROW_SIZE * 67 + 7;
 
 fn print_report(file: &[u8]) {
     let mut text = [0u8; TEXT_ROOM];
-    let reported = report::report(file, &mut text);
+    let reported = trace_text::write_text(file, &mut text);
     let size = reported.size;
     io::write_all(STDOUT_FILENO, &text[..size]);
 }

@@ -1,3 +1,5 @@
+pub mod Questions
+pub mod Starting
 pub mod Loop
-pub mod Answers
+pub mod CyclesAndRuns
 pub mod Unique

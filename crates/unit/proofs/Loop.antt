@@ -16,30 +16,30 @@ use Rattle.table.specs.declared.Target.{Target}
 use Rattle.table.specs.declared.Target.the-variants.{None, To}
 use Rattle.table.specs.Fields.{isLi, rdOf, rs1Of, firstOf}
 use Rattle.table.specs.Operation.{isNop, targetOf}
-use Rattle.model.specs.declared.IfId.{IfId}
-use Rattle.model.specs.declared.IfId.the-variants as IF/ID
-use Rattle.model.specs.declared.ExWb.{ExWb}
-use Rattle.model.specs.declared.ExWb.the-variants as EX/WB
-use Rattle.model.specs.declared.Unit.{Unit}
-use Rattle.model.specs.Cycle.{instructionOf, afterWB, afterID, afterIF, cycleOf, cyclesOf}
-use Rattle.model.specs.Record.{inExecuted, heldOf, wellMadeOf}
-use Rattle.model.proofs.Control.{Placed, placed-cycles}
-use Rattle.model.proofs.Made.{well-made-says}
-use Rattle.forward.specs.declared.Write.{Write}
-use Rattle.forward.specs.Forward.{writeTo, writeOf}
-use Rattle.forward.proofs.Laws.{write-back}
-use Rattle.fetch.proofs.Laws.{deliver}
-use Rattle.stages.specs.declared.Carried.{Carried}
-use Rattle.stages.specs.declared.Sources.{Sources}
-use Rattle.stages.specs.Stages.{sourcesOf, readAt, decodedWith, carriedOf, unitWith, advancedOf}
-use Rattle.stages.proofs.Laws.{execute, decode}
+use Rattle.unit_rules.specs.declared.IfId.{IfId}
+use Rattle.unit_rules.specs.declared.IfId.the-variants as IF/ID
+use Rattle.unit_rules.specs.declared.ExWb.{ExWb}
+use Rattle.unit_rules.specs.declared.ExWb.the-variants as EX/WB
+use Rattle.unit_rules.specs.declared.Unit.{Unit}
+use Rattle.unit_rules.specs.Cycle.{instructionOf, afterWB, afterID, afterIF, cycleOf, cyclesOf}
+use Rattle.unit_rules.specs.Record.{inExecuted, heldOf, wellMadeOf}
+use Rattle.unit_rules.proofs.Positions.{Placed, placed-cycles}
+use Rattle.unit_rules.proofs.WellMade.{well-made-says}
+use Rattle.unit_rules.specs.declared.Write.{Write}
+use Rattle.unit_rules.specs.Stages.{writeTo, writeOf}
+use Rattle.unit_rules.proofs.OneCycle.{write-back}
+use Rattle.unit_rules.proofs.OneCycle.{deliver}
+use Rattle.unit_rules.specs.declared.InFlight.{InFlight}
+use Rattle.unit_rules.specs.declared.Sources.{Sources}
+use Rattle.unit_rules.specs.Stages.{sourcesOf, readAt, decodedWith, inFlightOf, unitWith, advancedOf}
+use Rattle.unit_rules.proofs.OneCycle.{execute, decode}
 
 -- a turn: what the stages are called for, one after another
-pub turn : (u : Unit) {g : List Register} {l : Carried} {w : Write} {v : Sources}
+pub turn : (u : Unit) {g : List Register} {l : InFlight} {w : Write} {v : Sources}
     → u .n .0 ≤ 64
     → w ≡ writeOf (u .executed) → g ≡ cond (w .writes) (set (u .registers) (w .at .0) (w .value)) (u .registers)
     → v ≡ sourcesOf (u .fetched)
-    → l ≡ advancedOf (u .n) (carriedOf u) w (readAt v g) (getD (u .program) (u .count .0 % 64) 0)
+    → l ≡ advancedOf (u .n) (inFlightOf u) w (readAt v g) (getD (u .program) (u .count .0 % 64) 0)
     → unitWith u 1 g l ≡ cycleOf u
 unfolding cycleOf
 turn u {g = g} few ew eg ev el =
@@ -50,12 +50,12 @@ turn u {g = g} few ew eg ev el =
     rw (el, ev, ew, read, stored, worked, fetched)
 
 -- before the first turn
-pub none-yet : (u : Unit) {l : Carried} → l ≡ carriedOf u → unitWith u 0 (u .registers) l ≡ cyclesOf 0 u
+pub none-yet : (u : Unit) {l : InFlight} → l ≡ inFlightOf u → unitWith u 0 (u .registers) l ≡ cyclesOf 0 u
 unfolding cyclesOf
 none-yet u e = rw (e, add-zero (u .cycle))
 
 -- the unit after so many cycles, and one more
-pub more : (i : ℕ) (u : Unit) {f g : List Register} {k l : Carried} → unitWith u i f k ≡ cyclesOf i u
+pub more : (i : ℕ) (u : Unit) {f g : List Register} {k l : InFlight} → unitWith u i f k ≡ cyclesOf i u
     → unitWith (unitWith u i f k) 1 g l ≡ cycleOf (unitWith u i f k) → unitWith u (i + 1) g l ≡ cyclesOf (i + 1) u
 unfolding cyclesOf
 more i u {g = g} {l = l} h e =
@@ -109,7 +109,7 @@ at-is (EX/WB.Holds i o) = go (i .target)
     go (To p) = refl
 
 -- where a cycle writes and reads
-module _ (u : Unit) (made : wellMadeOf u ≡ true) (c : ℕ) {f : List Register} {l : Carried} (e : unitWith u c f l ≡ cyclesOf c u) where
+module _ (u : Unit) (made : wellMadeOf u ≡ true) (c : ℕ) {f : List Register} {l : InFlight} (e : unitWith u c f l ≡ cyclesOf c u) where
   placed : Placed (unitWith u c f l)
   placed = subst Placed (sym e) (placed-cycles c u (well-made-says u made .placed))
 

@@ -2,10 +2,30 @@
 -- Assumes nothing.
 use mathlib.Core.Path.{refl, sym, _∙_}
 use Rattle.determined.specs.Determined.{Determined}
+use Rattle.unit.proofs.ask.register_of.Kinds as register-of-kinds
+use Rattle.unit.proofs.ask.register_of.Reads as register-of-reads
+use Rattle.unit.proofs.ask.drained.Kinds as drained-kinds
+use Rattle.unit.proofs.ask.drained.Reads as drained-reads
+use Rattle.unit.proofs.begin.fresh.Kinds as fresh-kinds
+use Rattle.unit.proofs.begin.fresh.Reads as fresh-reads
+use Rattle.unit.proofs.begin.start.Kinds as start-kinds
+use Rattle.unit.proofs.begin.start.Reads as start-reads
 use Rattle.unit.proofs.cycle.Kinds as cycle-kinds
 use Rattle.unit.proofs.cycle.Reads as cycle-reads
 use Rattle.unit.proofs.run.Kinds as run-kinds
 use Rattle.unit.proofs.run.Reads as run-reads
+
+pub register-of-unique : Determined 0 register-of-kinds.ps register-of-kinds.r register-of-reads.Post
+register-of-unique κs a x y v w p q = (p ∙ sym q, refl)
+
+pub drained-unique : Determined 0 drained-kinds.ps drained-kinds.r drained-reads.Post
+drained-unique κs a x y v w p q = (p ∙ sym q, refl)
+
+pub fresh-unique : Determined 0 fresh-kinds.ps fresh-kinds.r fresh-reads.Post
+fresh-unique κs a x y v w p q = (p ∙ sym q, refl)
+
+pub start-unique : Determined 1 start-kinds.ps start-kinds.r start-reads.Post
+start-unique κs a x y v w p q = (p ∙ sym q, refl)
 
 pub cycle-unique : Determined 0 cycle-kinds.ps cycle-kinds.r cycle-reads.Post
 cycle-unique κs a x y v w p q = (p ∙ sym q, refl)

@@ -3,19 +3,23 @@
 ghost use Prim.Native.Nat.{_+_, _≤_};
 ghost use mathlib.Core.Path.{_≡_};
 ghost use mathlib.Core.Bool.{true};
-ghost use Rattle.model.specs.Cycle.{cyclesOf};
-ghost use Rattle.model.specs.Record.{lastOf, wellMadeOf};
-ghost use Rattle.stages.specs.Stages.{unitWith};
-use model::ExWb;
-use model::IdEx;
-use model::IfId;
-use model::Operands;
-use model::Unit;
+ghost use Rattle.unit_rules.specs.Cycle.{cyclesOf};
+ghost use Rattle.unit_rules.specs.Record.{lastOf, wellMadeOf};
+ghost use Rattle.unit_rules.specs.Stages.{unitWith};
 use register::Register;
 use table::Count;
+use unit_rules::ExWb;
+use unit_rules::IdEx;
+use unit_rules::IfId;
+use unit_rules::Operands;
+use unit_rules::Unit;
+use unit_stages::decode;
+use unit_stages::execute;
+use unit_stages::fetch;
+use unit_stages::write_back;
 
 // The unit put together again after so many cycles.
-fn gone_on(
+fn reassembled(
     u: Unit,
     m: u32,
     registers: [Register; 32],
@@ -55,26 +59,26 @@ pub(crate) fn cycles(u: Unit, m: u32) -> Unit
     let mut made: u32 = 0;
     while made < m {
         made += 1;
-        let write = forward::written(executed);
+        let write = write_back::written(executed);
         let at = write.at.0 as usize;
         let value = write.value;
         if write.writes {
             registers[at] = value;
         }
-        let from = stages::read_from(fetched);
+        let from = decode::read_from(fetched);
         let first = from.first.0 as usize;
         let second = from.second.0 as usize;
         let third = from.third.0 as usize;
-        executed = stages::executed(write, decoded);
+        executed = execute::executed(write, decoded);
         let read = Operands {
             first: registers[first],
             second: registers[second],
             third: registers[third],
         };
         let here = (count.0 % 64) as usize;
-        decoded = stages::decoded(fetched, read);
+        decoded = decode::decoded(fetched, read);
         fetched = fetch::delivered(n, count, program[here]);
         count = fetch::next_count(n, count);
     }
-    gone_on(u, m, registers, count, fetched, decoded, executed)
+    reassembled(u, m, registers, count, fetched, decoded, executed)
 }

@@ -1,24 +1,27 @@
 // The calls on a unit, by value: a unit goes in and comes back, and on a refusal it comes back as it was given.
 
 ghost use mathlib.Core.Path.{_≡_};
-ghost use Rattle.model.specs.Calls.{cycledOf, ranOf};
+ghost use Rattle.unit_rules.specs.Calls.{cycledOf, ranOf};
 
+mod ask;
+mod begin;
 mod cycles;
 
+pub use crate::ask::drained;
+pub use crate::ask::register_of;
+pub use crate::begin::fresh;
+pub use crate::begin::start;
 use crate::cycles::cycles;
-pub use asking::drained;
-pub use asking::register_of;
-use counts::last;
-use counts::lesser;
-use model::Cycled;
-use model::Ran;
-use model::Unit;
-pub use starting::fresh;
-pub use starting::start;
 use table::refusal;
-use wellmade::is_drained;
-use wellmade::well_made;
+use unit_record::is_drained;
+use unit_record::numbers::last;
+use unit_record::numbers::lesser;
+use unit_record::well_made;
+use unit_rules::Cycled;
+use unit_rules::Ran;
+use unit_rules::Unit;
 
+// Makes one cycle. Refused with 10 where the record is not well made, with 8 where the unit is drained.
 pub fn cycle(u: Unit) -> Cycled
     ensures { λ r. ⌜ r ≡ cycledOf u ⌝ }
 {
@@ -41,6 +44,7 @@ pub fn cycle(u: Unit) -> Cycled
     }
 }
 
+// Makes as many cycles as the budget allows and the unit has left, and answers how many. Refused with 10 only: a drained unit makes 0.
 pub fn run(u: Unit, budget: u32) -> Ran
     ensures { λ r. ⌜ r ≡ ranOf u budget ⌝ }
 {

@@ -2,16 +2,10 @@
 use mathlib.Core.Path.{sym, _∙_}
 use native.Mathlib.Omega.{arith}
 use borrow.Author.Needs.{needs}
-use Rattle.model.proofs.Reader.{ill-made-refused}
-use Rattle.unit.proofs.Answers as answers
+use Rattle.unit_rules.proofs.Theorems.{ill-made-refused}
+use Rattle.unit.proofs.CyclesAndRuns as answers
 use Rattle.unit.proofs.cycle.Statement.{statement}
 use Rattle.unit.proofs.cycle.Tie as tie
-
-well-made-requires : tie.Need-well-made-requires
-well-made-requires c κs = search needs
-
-is-drained-requires : tie.Need-is-drained-requires
-is-drained-requires c κs = search needs
 
 returns : tie.Need-returns
 returns c = answers.no-cycle-left _ (sym (c .before .before .before .well-made .ensures) ∙ c .before .before .if1 .taken) (sym (c .before .is-drained .ensures) ∙ c .if2 .taken)
@@ -28,4 +22,4 @@ returns-3 c = sym (ill-made-refused _ (sym (c .before .well-made .ensures) ∙ c
 pub cycle-spec : {M : Type 1} → statement M
 cycle-spec =
     tie.close
-    (tie.spec well-made-requires is-drained-requires returns cycles-requires returns-2 returns-3)
+    (tie.spec (λ c κs. search needs) (λ c κs. search needs) returns cycles-requires returns-2 returns-3)

@@ -2,23 +2,14 @@
 use mathlib.Core.Path.{sym, _∙_}
 use native.Mathlib.Omega.{arith}
 use borrow.Author.Needs.{needs}
-use Rattle.model.proofs.Made.{well-made-says}
-use Rattle.model.proofs.Reader.{ill-made-refused}
-use Rattle.unit.proofs.Answers as answers
+use Rattle.unit_rules.proofs.WellMade.{well-made-says}
+use Rattle.unit_rules.proofs.Theorems.{ill-made-refused}
+use Rattle.unit.proofs.CyclesAndRuns as answers
 use Rattle.unit.proofs.run.Statement.{statement}
 use Rattle.unit.proofs.run.Tie as tie
 
-well-made-requires : tie.Need-well-made-requires
-well-made-requires c κs = search needs
-
-last-requires : tie.Need-last-requires
-last-requires c κs = search needs
-
 sub-lesser : tie.Need-sub-lesser
 sub-lesser c = let made = sym (c .before .before .before .before .well-made .ensures) ∙ c .before .before .before .if1 .taken in omega (arith, well-made-says _ made .reached, c .before .last .ensures)
-
-lesser-requires : tie.Need-lesser-requires
-lesser-requires c κs = search needs
 
 cycles-requires : tie.Need-cycles-requires
 cycles-requires c κs = let made = sym (c .before .before .before .before .before .well-made .ensures) ∙ c .before .before .before .before .if1 .taken in (made, omega (arith, well-made-says _ made .reached, c .before .before .last .ensures, c .lesser .ensures))
@@ -33,10 +24,10 @@ pub run-spec : {M : Type 1} → statement M
 run-spec =
     tie.close
     (tie.spec
-    well-made-requires
-    last-requires
+    (λ c κs. search needs)
+    (λ c κs. search needs)
     sub-lesser
-    lesser-requires
+    (λ c κs. search needs)
     cycles-requires
     returns
     returns-2)

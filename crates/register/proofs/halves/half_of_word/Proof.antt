@@ -3,12 +3,6 @@ use borrow.Author.Needs.{needs}
 use Rattle.register.proofs.halves.half_of_word.Statement.{statement}
 use Rattle.register.proofs.halves.half_of_word.Tie as tie
 
-cast-result : tie.Need-cast-result
-cast-result c = search needs
-
-cast-result-2 : tie.Need-cast-result-2
-cast-result-2 c = search needs
-
 returns : tie.Need-returns
 returns c = rw (c .if1 .taken)
 
@@ -16,4 +10,4 @@ returns-2 : tie.Need-returns-2
 returns-2 c = rw (c .if1 .left)
 
 pub half-of-word-spec : {M : Type 1} → statement M
-half-of-word-spec = tie.close (tie.spec cast-result cast-result-2 returns returns-2)
+half-of-word-spec = tie.close (tie.spec (λ c. search needs) (λ c. search needs) returns returns-2)

@@ -5,26 +5,11 @@ use Rattle.register.specs.Layout.{withHalf}
 use Rattle.register.proofs.halves.put_half.Statement.{statement}
 use Rattle.register.proofs.halves.put_half.Tie as tie
 
-half-of-word-requires : tie.Need-half-of-word-requires
-half-of-word-requires c κs = search needs
-
-join-halfwords-requires : tie.Need-join-halfwords-requires
-join-halfwords-requires c κs = search needs
-
 returns : tie.Need-returns
 unfolding withHalf
 returns c =
     simp (eq-eqb _ _ (c .before .before .if1 .taken))
     (rw (c .before .half-of-word .ensures) at (c .join-halfwords .ensures))
-
-add-if2 : tie.Need-add-if2
-add-if2 c = search needs
-
-half-of-word-requires-2 : tie.Need-half-of-word-requires-2
-half-of-word-requires-2 c κs = search needs
-
-join-halfwords-requires-2 : tie.Need-join-halfwords-requires-2
-join-halfwords-requires-2 c κs = search needs
 
 returns-2 : tie.Need-returns-2
 unfolding withHalf
@@ -40,11 +25,11 @@ pub put-half-spec : {M : Type 1} → statement M
 put-half-spec =
     tie.close
     (tie.spec
-    half-of-word-requires
-    join-halfwords-requires
+    (λ c κs. search needs)
+    (λ c κs. search needs)
     returns
-    add-if2
-    half-of-word-requires-2
-    join-halfwords-requires-2
+    (λ c. search needs)
+    (λ c κs. search needs)
+    (λ c κs. search needs)
     returns-2
     returns-3)

@@ -5,15 +5,6 @@ use Rattle.table.specs.Fields.{firstOf}
 use Rattle.table.proofs.fields.first.Statement.{statement}
 use Rattle.table.proofs.fields.first.Tie as tie
 
-is-li-requires : tie.Need-is-li-requires
-is-li-requires c κs = search needs
-
-rd-requires : tie.Need-rd-requires
-rd-requires c κs = search needs
-
-rs1-requires : tie.Need-rs1-requires
-rs1-requires c κs = search needs
-
 returns : tie.Need-returns
 unfolding firstOf
 returns c = (rw (sym (c .before .before .is-li .ensures) ∙ c .before .if1 .taken) (c .rd .ensures .0), c .rd .ensures .1)
@@ -23,4 +14,4 @@ unfolding firstOf
 returns-2 c = (rw (sym (c .before .before .is-li .ensures) ∙ c .before .if1 .left) (c .rs1 .ensures .0), c .rs1 .ensures .1)
 
 pub first-spec : {M : Type 1} → statement M
-first-spec = tie.close (tie.spec is-li-requires rd-requires rs1-requires returns returns-2)
+first-spec = tie.close (tie.spec (λ c κs. search needs) (λ c κs. search needs) (λ c κs. search needs) returns returns-2)

@@ -7,11 +7,8 @@ use borrow.Author.Needs.{needs}
 use Rattle.table.proofs.fields.rd.Statement.{statement}
 use Rattle.table.proofs.fields.rd.Tie as tie
 
-cast-t3 : tie.Need-cast-t3
-cast-t3 c = search needs
-
 returns : tie.Need-returns
 returns c = (λ i. record { 0 = sym (ap (λ (n : ℕ). n % 32) (div-one (c .args .w))) i }, omega arith)
 
 pub rd-spec : {M : Type 1} → statement M
-rd-spec = tie.close (tie.spec cast-t3 returns)
+rd-spec = tie.close (tie.spec (λ c. search needs) returns)

@@ -6,11 +6,8 @@ use Rattle.table.specs.Operation.{readsOf, shortRows}
 use Rattle.table.proofs.operands.short_reads.Statement.{statement}
 use Rattle.table.proofs.operands.short_reads.Tie as tie
 
-array-copy-out-result : tie.Need-array-copy-out-result
-array-copy-out-result c = search needs
-
 returns : tie.Need-returns
 returns c = List·getD-map readsOf shortRows (c .before .args .code) nop
 
 pub short-reads-spec : {M : Type 1} → statement M
-short-reads-spec = tie.close (tie.spec array-copy-out-result returns)
+short-reads-spec = tie.close (tie.spec (λ c. search needs) returns)

@@ -6,20 +6,11 @@ use lib.Dec.{eqb}
 use Rattle.table.proofs.writes.is_nop.Statement.{statement}
 use Rattle.table.proofs.writes.is_nop.Tie as tie
 
-is-li-requires : tie.Need-is-li-requires
-is-li-requires c κs = search needs
-
 returns : tie.Need-returns
 returns c = rw (sym (c .before .is-li .ensures) ∙ c .if1 .taken)
 
-is-multiply-requires : tie.Need-is-multiply-requires
-is-multiply-requires c κs = search needs
-
 returns-2 : tie.Need-returns-2
 returns-2 c = rw (sym (c .before .before .before .is-li .ensures) ∙ c .before .before .if1 .left, sym (c .before .is-multiply .ensures) ∙ c .if2 .taken)
-
-code-requires : tie.Need-code-requires
-code-requires c κs = search needs
 
 returns-3 : tie.Need-returns-3
 returns-3 c =
@@ -29,4 +20,4 @@ returns-3 c =
 pub is-nop-spec : {M : Type 1} → statement M
 is-nop-spec =
     tie.close
-    (tie.spec is-li-requires returns is-multiply-requires returns-2 code-requires returns-3)
+    (tie.spec (λ c κs. search needs) returns (λ c κs. search needs) returns-2 (λ c κs. search needs) returns-3)

@@ -6,12 +6,6 @@ use Rattle.table.specs.declared.Target.the-variants.{To}
 use Rattle.table.proofs.writes.target_of.Statement.{statement}
 use Rattle.table.proofs.writes.target_of.Tie as tie
 
-is-nop-requires : tie.Need-is-nop-requires
-is-nop-requires c κs = search needs
-
-rd-requires : tie.Need-rd-requires
-rd-requires c κs = search needs
-
 returns : tie.Need-returns
 unfolding targetOf
 returns c = rw (sym (c .before .is-nop .ensures) ∙ c .if1 .taken)
@@ -21,4 +15,4 @@ unfolding targetOf
 returns-2 c = rw (sym (c .before .before .is-nop .ensures) ∙ c .before .if1 .left) (ap To (c .rd .ensures .0))
 
 pub target-of-spec : {M : Type 1} → statement M
-target-of-spec = tie.close (tie.spec is-nop-requires rd-requires returns returns-2)
+target-of-spec = tie.close (tie.spec (λ c κs. search needs) (λ c κs. search needs) returns returns-2)

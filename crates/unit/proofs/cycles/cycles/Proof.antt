@@ -4,9 +4,9 @@ use mathlib.Core.Logic.{⊎-elim}
 use mathlib.Core.Path.{_≡_, refl, _∙_}
 use native.Mathlib.Omega.{arith}
 use borrow.Author.Needs.{needs}
-use Rattle.model.proofs.Made.{well-made-says, last-small}
-use Rattle.model.specs.Cycle.{cyclesOf}
-use Rattle.stages.specs.Stages.{unitWith}
+use Rattle.unit_rules.proofs.WellMade.{well-made-says, last-small}
+use Rattle.unit_rules.specs.Cycle.{cyclesOf}
+use Rattle.unit_rules.specs.Stages.{unitWith}
 use Rattle.unit.proofs.Loop.{none-yet, turn, more, read-in-range, write-in-range}
 use Rattle.unit.proofs.cycles.cycles.Statement.{statement}
 use Rattle.unit.proofs.cycles.cycles.Tie as tie
@@ -119,15 +119,15 @@ loop-again c =
       omega (arith, c .before .before .before .before .before .before .before .before .before .before .before .before .before .before .before .before .loop-test .taken),
     )
 
-gone-on-requires : tie.Need-gone-on-requires Inv-loop μ-loop
-gone-on-requires c κs =
+reassembled-requires : tie.Need-reassembled-requires Inv-loop μ-loop
+reassembled-requires c κs =
     let end = last-small _ (c .before .before .before .before .before .before .pre .0) in
     search needs
 
 returns : tie.Need-returns Inv-loop μ-loop
 returns c =
     let e : c .before .before .loop .made ≡ c .before .before .before .before .before .before .before .args .m = omega arith in
-    c .gone-on .ensures ∙ rw e at (c .before .before .loop .inv .0)
+    c .reassembled .ensures ∙ rw e at (c .before .before .loop .inv .0)
 
 pub cycles-spec : {M : Type 1} → statement M
 cycles-spec =
@@ -160,5 +160,5 @@ cycles-spec =
     next-count-requires
     loop-less
     loop-again
-    gone-on-requires
+    reassembled-requires
     returns)

@@ -1,0 +1,13 @@
+-- Carried by the test alone.
+use borrow.Author.Needs.{needs}
+use Rattle.alu.proofs.multiply.half_of_long.Statement.{statement}
+use Rattle.alu.proofs.multiply.half_of_long.Tie as tie
+
+returns : tie.Need-returns
+returns c = rw (c .if1 .taken)
+
+returns-2 : tie.Need-returns-2
+returns-2 c = rw (c .if1 .left)
+
+pub half-of-long-spec : {M : Type 1} → statement M
+half-of-long-spec = tie.close (tie.spec (λ c. search needs) (λ c. search needs) returns returns-2)

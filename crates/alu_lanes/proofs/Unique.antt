@@ -1,0 +1,94 @@
+-- For every public function: no second answer fits its contract, since the contract is one equation.
+-- Assumes nothing.
+use mathlib.Core.Path.{refl, sym, _∙_}
+use Rattle.determined.specs.Determined.{Determined}
+use Rattle.alu_lanes.proofs.wrapped.add.Kinds as add-kinds
+use Rattle.alu_lanes.proofs.wrapped.add.Reads as add-reads
+use Rattle.alu_lanes.proofs.wrapped.subtract_from.Kinds as subtract-from-kinds
+use Rattle.alu_lanes.proofs.wrapped.subtract_from.Reads as subtract-from-reads
+use Rattle.alu_lanes.proofs.counted.ones_in_halfwords.Kinds as ones-in-halfwords-kinds
+use Rattle.alu_lanes.proofs.counted.ones_in_halfwords.Reads as ones-in-halfwords-reads
+use Rattle.alu_lanes.proofs.counted.leading_zeros.Kinds as leading-zeros-kinds
+use Rattle.alu_lanes.proofs.counted.leading_zeros.Reads as leading-zeros-reads
+use Rattle.alu_lanes.proofs.moved.shift_halfwords_right.Kinds as shift-halfwords-right-kinds
+use Rattle.alu_lanes.proofs.moved.shift_halfwords_right.Reads as shift-halfwords-right-reads
+use Rattle.alu_lanes.proofs.moved.rotate_right.Kinds as rotate-right-kinds
+use Rattle.alu_lanes.proofs.moved.rotate_right.Reads as rotate-right-reads
+use Rattle.alu_lanes.proofs.multiplied.multiply_low_halves.Kinds as multiply-low-halves-kinds
+use Rattle.alu_lanes.proofs.multiplied.multiply_low_halves.Reads as multiply-low-halves-reads
+use Rattle.alu_lanes.proofs.multiplied.multiply_low_half_by.Kinds as multiply-low-half-by-kinds
+use Rattle.alu_lanes.proofs.multiplied.multiply_low_half_by.Reads as multiply-low-half-by-reads
+use Rattle.alu_lanes.proofs.bitwise.or.Kinds as or-kinds
+use Rattle.alu_lanes.proofs.bitwise.or.Reads as or-reads
+use Rattle.alu_lanes.proofs.bitwise.and.Kinds as and-kinds
+use Rattle.alu_lanes.proofs.bitwise.and.Reads as and-reads
+use Rattle.alu_lanes.proofs.clamped.multiply_add_16.Kinds as multiply-add-16-kinds
+use Rattle.alu_lanes.proofs.clamped.multiply_add_16.Reads as multiply-add-16-reads
+use Rattle.alu_lanes.proofs.clamped.multiply_subtract_16.Kinds as multiply-subtract-16-kinds
+use Rattle.alu_lanes.proofs.clamped.multiply_subtract_16.Reads as multiply-subtract-16-reads
+use Rattle.alu_lanes.proofs.clamped.multiply_add_32.Kinds as multiply-add-32-kinds
+use Rattle.alu_lanes.proofs.clamped.multiply_add_32.Reads as multiply-add-32-reads
+use Rattle.alu_lanes.proofs.clamped.multiply_subtract_32.Kinds as multiply-subtract-32-kinds
+use Rattle.alu_lanes.proofs.clamped.multiply_subtract_32.Reads as multiply-subtract-32-reads
+use Rattle.alu_lanes.proofs.clamped.add_clamped.Kinds as add-clamped-kinds
+use Rattle.alu_lanes.proofs.clamped.add_clamped.Reads as add-clamped-reads
+use Rattle.alu_lanes.proofs.clamped.subtract_from_clamped.Kinds as subtract-from-clamped-kinds
+use Rattle.alu_lanes.proofs.clamped.subtract_from_clamped.Reads as subtract-from-clamped-reads
+use Rattle.alu_lanes.proofs.ordered.larger.Kinds as larger-kinds
+use Rattle.alu_lanes.proofs.ordered.larger.Reads as larger-reads
+use Rattle.alu_lanes.proofs.ordered.smaller.Kinds as smaller-kinds
+use Rattle.alu_lanes.proofs.ordered.smaller.Reads as smaller-reads
+
+pub add-unique : Determined 0 add-kinds.ps add-kinds.r add-reads.Post
+add-unique κs a x y v w p q = (p ∙ sym q, refl)
+
+pub subtract-from-unique : Determined 0 subtract-from-kinds.ps subtract-from-kinds.r subtract-from-reads.Post
+subtract-from-unique κs a x y v w p q = (p ∙ sym q, refl)
+
+pub ones-in-halfwords-unique : Determined 0 ones-in-halfwords-kinds.ps ones-in-halfwords-kinds.r ones-in-halfwords-reads.Post
+ones-in-halfwords-unique κs a x y v w p q = (p ∙ sym q, refl)
+
+pub leading-zeros-unique : Determined 0 leading-zeros-kinds.ps leading-zeros-kinds.r leading-zeros-reads.Post
+leading-zeros-unique κs a x y v w p q = (p ∙ sym q, refl)
+
+pub shift-halfwords-right-unique : Determined 0 shift-halfwords-right-kinds.ps shift-halfwords-right-kinds.r shift-halfwords-right-reads.Post
+shift-halfwords-right-unique κs a x y v w p q = (p ∙ sym q, refl)
+
+pub rotate-right-unique : Determined 0 rotate-right-kinds.ps rotate-right-kinds.r rotate-right-reads.Post
+rotate-right-unique κs a x y v w p q = (p ∙ sym q, refl)
+
+pub multiply-low-halves-unique : Determined 0 multiply-low-halves-kinds.ps multiply-low-halves-kinds.r multiply-low-halves-reads.Post
+multiply-low-halves-unique κs a x y v w p q = (p ∙ sym q, refl)
+
+pub multiply-low-half-by-unique : Determined 0 multiply-low-half-by-kinds.ps multiply-low-half-by-kinds.r multiply-low-half-by-reads.Post
+multiply-low-half-by-unique κs a x y v w p q = (p ∙ sym q, refl)
+
+pub or-unique : Determined 0 or-kinds.ps or-kinds.r or-reads.Post
+or-unique κs a x y v w p q = (p ∙ sym q, refl)
+
+pub and-unique : Determined 0 and-kinds.ps and-kinds.r and-reads.Post
+and-unique κs a x y v w p q = (p ∙ sym q, refl)
+
+pub multiply-add-16-unique : Determined 0 multiply-add-16-kinds.ps multiply-add-16-kinds.r multiply-add-16-reads.Post
+multiply-add-16-unique κs a x y v w p q = (p ∙ sym q, refl)
+
+pub multiply-subtract-16-unique : Determined 0 multiply-subtract-16-kinds.ps multiply-subtract-16-kinds.r multiply-subtract-16-reads.Post
+multiply-subtract-16-unique κs a x y v w p q = (p ∙ sym q, refl)
+
+pub multiply-add-32-unique : Determined 0 multiply-add-32-kinds.ps multiply-add-32-kinds.r multiply-add-32-reads.Post
+multiply-add-32-unique κs a x y v w p q = (p ∙ sym q, refl)
+
+pub multiply-subtract-32-unique : Determined 0 multiply-subtract-32-kinds.ps multiply-subtract-32-kinds.r multiply-subtract-32-reads.Post
+multiply-subtract-32-unique κs a x y v w p q = (p ∙ sym q, refl)
+
+pub add-clamped-unique : Determined 0 add-clamped-kinds.ps add-clamped-kinds.r add-clamped-reads.Post
+add-clamped-unique κs a x y v w p q = (p ∙ sym q, refl)
+
+pub subtract-from-clamped-unique : Determined 0 subtract-from-clamped-kinds.ps subtract-from-clamped-kinds.r subtract-from-clamped-reads.Post
+subtract-from-clamped-unique κs a x y v w p q = (p ∙ sym q, refl)
+
+pub larger-unique : Determined 0 larger-kinds.ps larger-kinds.r larger-reads.Post
+larger-unique κs a x y v w p q = (p ∙ sym q, refl)
+
+pub smaller-unique : Determined 0 smaller-kinds.ps smaller-kinds.r smaller-reads.Post
+smaller-unique κs a x y v w p q = (p ∙ sym q, refl)

@@ -1,0 +1,4 @@
+pub mod Width
+pub mod Lane
+pub mod Across
+pub mod Result

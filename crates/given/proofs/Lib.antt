@@ -1,3 +1,0 @@
-pub mod Bench
-pub mod Rows
-pub mod Reader

@@ -1,4 +1,0 @@
-pub mod Width
-pub mod Lane
-pub mod Across
-pub mod Gives

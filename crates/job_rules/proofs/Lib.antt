@@ -1,0 +1,6 @@
+pub mod Boundaries
+pub mod Pieces
+pub mod Refusals
+pub mod RoundTrip
+pub mod TooLong
+pub mod Theorems

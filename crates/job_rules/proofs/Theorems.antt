@@ -1,0 +1,124 @@
+-- For the reader of specs/: a job that is written and read again is the same job, a file that is read and written again is the same file, and a file is
+-- accepted exactly when the writer gives it. All of it over what the two calls promise, `writeOf instructionsAt` and `readOf instructionsAt`.
+-- Assumes nothing.
+use Prim.Native.Nat.{ℕ, zero, suc, _-_, _≤_}
+use native.Mathlib.Nat.{le-refl, le-of-suc-le-suc, not-suc-le-zero}
+use native.Mathlib.Omega.{arith}
+use mathlib.Core.Path.{_≡_, refl, sym, ap, _∙_}
+use mathlib.Core.Logic.{_↔_}
+use mathlib.Core.List.{List, [], _∷_, _++_, flatMap}
+use lib.ListN.{length, getD, take, drop, replicate}
+use lib.Seq.{take-append-seam}
+use Rattle.buffer.specs.Front.{atFront}
+use Rattle.table.specs.Refusal.{firstBad}
+use Rattle.table.proofs.Rows.{all-alike}
+use Rattle.job_rules.specs.declared.ReadJob.{ReadJob}
+use Rattle.job_rules.specs.declared.Written.{Written}
+use Rattle.job_rules.specs.Layout.{Bytes, instructionsAt, LARGEST, registersAt, sizeOf, registerCount, encode, twoAt, wordsIn, registersOf}
+use Rattle.job_rules.specs.Read.{filled, jobOf, acceptedOf, readOf}
+use Rattle.job_rules.specs.Write.{writtenOf, sizeOrRefusal, writeOf, programOf, registerBytesOf}
+use Rattle.job_rules.proofs.Pieces.{job-size}
+use Rattle.job_rules.proofs.Refusals.{not-written, accepts, written, accepted}
+use Rattle.job_rules.proofs.RoundTrip.{says-n, says-words, says-bytes, read-encoded, file-again, bytes-again, accepts-again}
+
+-- ---- both ways
+
+-- Reading what the writer put at the front of a buffer gives the same job.
+pub read-written : (words bytes out : List ℕ) → writeOf instructionsAt words bytes out .0 .refusal ≡ 0
+    → readOf instructionsAt (take (writeOf instructionsAt words bytes out .0 .size) (writeOf instructionsAt words bytes out .1))
+    ≡ acceptedOf (jobOf words (registersOf (registerCount bytes) bytes))
+read-written words bytes out e =
+    let a = accepts instructionsAt words bytes out e in
+    let job = encode instructionsAt words bytes in
+    ap (λ (w : Written × List ℕ). readOf instructionsAt (take (w .0 .size) (w .1))) (written instructionsAt words bytes out a)
+    ∙ ap (readOf instructionsAt) (take-append-seam job (drop (length job) out))
+    ∙ read-encoded words bytes (a .job)
+
+-- Writing what was read from an accepted file gives the same bytes.
+pub written-read : (l out : List ℕ) → Bytes l → readOf instructionsAt l .refusal ≡ 0 → length l ≤ length out
+    → writeOf instructionsAt (programOf (readOf instructionsAt l .job)) (registerBytesOf (readOf instructionsAt l .job)) out ≡ (writtenOf 0 0 (length l), atFront l out)
+written-read l out b e room =
+    let a = accepted instructionsAt l e in
+    let again = file-again l b a in
+    written instructionsAt _ _ out (accepts-again l b a out room) ∙ (λ i. (writtenOf 0 0 (length (again i)), atFront (again i) out))
+
+-- ---- one file for each job, and one job for each file
+
+-- Two jobs with the same bytes are the same job.
+pub same-bytes : (words bytes out words′ bytes′ out′ : List ℕ)
+    → writeOf instructionsAt words bytes out .0 .refusal ≡ 0 → writeOf instructionsAt words′ bytes′ out′ .0 .refusal ≡ 0
+    → encode instructionsAt words bytes ≡ encode instructionsAt words′ bytes′ → (words ≡ words′) × (bytes ≡ bytes′)
+same-bytes words bytes out words′ bytes′ out′ e e′ same =
+    let a = accepts instructionsAt words bytes out e .job in
+    let b = accepts instructionsAt words′ bytes′ out′ e′ .job in
+    let n : length words ≡ length words′ = sym (says-n words bytes a) ∙ ap (λ (l : List ℕ). twoAt l 0) same ∙ says-n words′ bytes′ b in (
+      sym (says-words words bytes a) ∙ (λ i. wordsIn (n i) (drop instructionsAt (same i))) ∙ says-words words′ bytes′ b,
+      sym (says-bytes words bytes a) ∙ (λ i. drop (registersAt instructionsAt (n i)) (same i)) ∙ says-bytes words′ bytes′ b,
+    )
+
+-- Two accepted files that are read as the same job are the same file.
+pub same-job : (l l′ : List ℕ) → Bytes l → Bytes l′ → readOf instructionsAt l .refusal ≡ 0 → readOf instructionsAt l′ .refusal ≡ 0
+    → readOf instructionsAt l .job ≡ readOf instructionsAt l′ .job → l ≡ l′
+same-job l l′ b b′ e e′ same =
+    sym (file-again l b (accepted instructionsAt l e))
+    ∙ (λ i. encode instructionsAt (programOf (same i)) (registerBytesOf (same i)))
+    ∙ file-again l′ b′ (accepted instructionsAt l′ e′)
+
+-- the writer's output for some job: words and register bytes that it puts, as this file, at the front of every buffer with room
+abbrev pub Output : List ℕ → Type 0
+Output l =
+    (words : List ℕ) × (bytes : List ℕ) × Bytes bytes
+    × ((out : List ℕ) → length l ≤ length out → writeOf instructionsAt words bytes out ≡ (writtenOf 0 0 (length l), atFront l out))
+
+-- A file is accepted exactly when it is the writer's output for some job.
+pub accepted-exactly : (l : List ℕ) → Bytes l → (readOf instructionsAt l .refusal ≡ 0) ↔ Output l
+accepted-exactly l b = (gives, given)
+  where
+    gives : readOf instructionsAt l .refusal ≡ 0 → Output l
+    gives e = (
+      programOf (readOf instructionsAt l .job),
+      registerBytesOf (readOf instructionsAt l .job),
+      bytes-again l b (accepted instructionsAt l e),
+      λ out room. written-read l out b e room,
+    )
+
+    given : Output l → readOf instructionsAt l .refusal ≡ 0
+    given w =
+        let e = w .3 l (le-refl (length l)) in
+        sym (ap (λ (x : Written × List ℕ). readOf instructionsAt (take (x .0 .size) (x .1)) .refusal) e
+        ∙ ap (λ (m : List ℕ). readOf instructionsAt m .refusal) (take-append-seam l (drop (length l) l)))
+        ∙ ap (λ (v : ReadJob). v .refusal) (read-written (w .0) (w .1) l (ap (λ (x : Written × List ℕ). x .0 .refusal) e))
+
+-- "buffers stay unaltered" by a writer that refuses.
+pub refused-unaltered : (words bytes out : List ℕ) → (writeOf instructionsAt words bytes out .0 .refusal ≡ 0 → ⊥) → writeOf instructionsAt words bytes out .1 ≡ out
+unfolding writeOf
+refused-unaltered words bytes out h = ap (λ (w : Written × List ℕ). w .1) (sym (not-written instructionsAt words bytes out refl h))
+
+-- ---- sizes
+
+-- "at most 776": no accepted file is larger, and one of 64 words and 32 registers is as large.
+pub never-larger : (l : List ℕ) → readOf instructionsAt l .refusal ≡ 0 → length l ≤ LARGEST
+never-larger l e =
+    let t = accepted instructionsAt l e .header .taken in
+    omega (arith, t .few, t .fewer, t .right-size)
+
+pub largest-written : writeOf instructionsAt (replicate 64 0) (replicate 512 0) (replicate LARGEST 0) .0 ≡ writtenOf 0 0 LARGEST
+unfolding sizeOrRefusal writeOf encode flatMap firstBad
+largest-written = refl
+
+-- "The whole is exactly 8+4n+16r bytes": what the writer answers as the size.
+pub size-written : (words bytes out : List ℕ) → writeOf instructionsAt words bytes out .0 .refusal ≡ 0
+    → writeOf instructionsAt words bytes out .0 .size ≡ sizeOf instructionsAt (length words) (registerCount bytes)
+size-written words bytes out e =
+    let a = accepts instructionsAt words bytes out e in
+    let whole = a .job .whole in
+    ap (λ (w : Written × List ℕ). w .0 .size) (written instructionsAt words bytes out a) ∙ omega (arith, job-size words bytes)
+
+-- "zero beyond n and r"
+pub zero-beyond : {A : Type 0} (size : ℕ) (none : A) (l : List A) (i : ℕ) → length l ≤ i → getD (filled size none l) i none ≡ none
+zero-beyond {A} size none l i h = behind l i (size - length l) h
+  where
+    behind : (l : List A) (i m : ℕ) → length l ≤ i → getD (l ++ replicate m none) i none ≡ none
+    behind [] i m h = all-alike none m i
+    behind (x ∷ l) zero m h = absurd (not-suc-le-zero h)
+    behind (x ∷ l) (suc i) m h = behind l i m (le-of-suc-le-suc h)

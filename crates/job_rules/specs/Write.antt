@@ -1,0 +1,40 @@
+-- What the writer answers and what the lent buffer holds afterwards, for every job and every buffer.
+-- Assumes nothing.
+use Prim.Native.Nat.{ℕ, _%_}
+use mathlib.Core.Bool.{cond, not, _||_}
+use mathlib.Core.List.{List, flatMap}
+use lib.Dec.{ltb, eqb}
+use lib.ListN.{length, take}
+use Rattle.buffer.specs.Front.{atFront}
+use Rattle.register.specs.Layout.{bytesOf}
+use Rattle.table.specs.Refusal.{COUNT, REGS, WORD, ROOM, firstBad}
+use Rattle.job_rules.specs.declared.Job.{Job}
+use Rattle.job_rules.specs.declared.Written.{Written}
+use Rattle.job_rules.specs.Layout.{encode}
+
+-- "Every refusal returns its number and zeros elsewhere but for 6's place"; "Success is 0": the number, that place, and the size of what was written
+abbrev pub writtenOf : ℕ → ℕ → ℕ → Written
+writtenOf number place size = record { refusal = number; place = place; size = size }
+
+-- "the writer tests 2, 3, 6, 9", in that order: its answer where the buffer has so many bytes
+unfoldable pub sizeOrRefusal : ℕ → List ℕ → List ℕ → ℕ → Written
+sizeOrRefusal at words bytes room =
+    let size : ℕ = length (encode at words bytes) in
+    cond (ltb 64 (length words)) (writtenOf COUNT 0 0)
+    (cond (ltb 512 (length bytes) || not (eqb (length bytes % 16) 0)) (writtenOf REGS 0 0)
+    (cond (ltb (firstBad words) (length words)) (writtenOf WORD (firstBad words) 0)
+    (cond (ltb room size) (writtenOf ROOM 0 0)
+    (writtenOf 0 0 size))))
+
+-- that answer, and the buffer afterwards: "The writer puts the job at the front of the buffer; bytes beyond it stay"; refused, "buffers stay unaltered"
+unfoldable pub writeOf : ℕ → List ℕ → List ℕ → List ℕ → Written × List ℕ
+writeOf at words bytes out =
+    let answer : Written = sizeOrRefusal at words bytes (length out) in
+    (answer, cond (eqb (answer .refusal) 0) (atFront (encode at words bytes) out) out)
+
+-- a job that was read, as the writer takes it: its n words and the bytes of its r registers
+abbrev pub programOf : Job → List ℕ
+programOf j = take (j .n .0) (j .words)
+
+abbrev pub registerBytesOf : Job → List ℕ
+registerBytesOf j = flatMap bytesOf (take (j .r) (j .registers))

@@ -1,4 +1,0 @@
-pub mod Cycle
-pub mod Record
-pub mod Calls
-pub mod Sequence

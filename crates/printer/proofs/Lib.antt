@@ -1,4 +1,0 @@
-pub mod Stores
-pub mod Pieces
-pub mod Answers
-pub mod Unique

@@ -1,0 +1,23 @@
+-- For every public function: no second answer and no second buffer fits its contract, since the contract is one equation of both.
+-- Assumes nothing.
+use Prim.Native.Nat.{ℕ}
+use mathlib.Core.Path.{refl, sym, ap, _∙_}
+use mathlib.Core.List.{List}
+use Rattle.determined.specs.Determined.{Determined}
+use Rattle.row.proofs.digits.tens.Kinds as tens-kinds
+use Rattle.row.proofs.digits.tens.Reads as tens-reads
+use Rattle.row.proofs.digits.units.Kinds as units-kinds
+use Rattle.row.proofs.digits.units.Reads as units-reads
+use Rattle.row.proofs.write_row.Kinds as write-row-kinds
+use Rattle.row.proofs.write_row.Reads as write-row-reads
+
+pub write-row-unique : Determined 1 write-row-kinds.ps write-row-kinds.r write-row-reads.Post
+write-row-unique κs a x y v w p q =
+    let same = p ∙ sym q in
+    (ap (λ (z : ℕ × List ℕ). z .0) same, λ i. (ap (λ (z : ℕ × List ℕ). z .1) same i, v .1))
+
+pub tens-unique : Determined 0 tens-kinds.ps tens-kinds.r tens-reads.Post
+tens-unique κs a x y v w p q = (p ∙ sym q, refl)
+
+pub units-unique : Determined 0 units-kinds.ps units-kinds.r units-reads.Post
+units-unique κs a x y v w p q = (p ∙ sym q, refl)

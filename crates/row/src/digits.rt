@@ -1,0 +1,71 @@
+// Digits and hyphens at the front of a buffer.
+
+ghost use Prim.Native.Nat.{_/_, _%_, _≤_};
+ghost use mathlib.Core.Path.{_≡_};
+ghost use lib.ListN.{length};
+ghost use Rattle.buffer.specs.Front.{atFront};
+ghost use Rattle.row_rules.specs.Text.{digit, twoDigits, hexDigits, hyphens};
+
+const DIGITS: [u8; 16] = [
+    b'0',
+    b'1',
+    b'2',
+    b'3',
+    b'4',
+    b'5',
+    b'6',
+    b'7',
+    b'8',
+    b'9',
+    b'A',
+    b'B',
+    b'C',
+    b'D',
+    b'E',
+    b'F',
+];
+
+pub fn tens(n: u32) -> u8
+    ensures { λ r. ⌜ r ≡ digit (n / 10 % 10) ⌝ }
+{
+    DIGITS[(n / 10 % 10) as usize]
+}
+
+pub fn units(n: u32) -> u8
+    ensures { λ r. ⌜ r ≡ digit (n % 10) ⌝ }
+{
+    DIGITS[(n % 10) as usize]
+}
+
+pub(crate) fn put_two(out: &mut [u8], n: u32)
+    requires { ⌜ 2 ≤ length (now out) ⌝ }
+    ensures { λ _. ⌜ now (out .exit) ≡ atFront (twoDigits n) (now (out .entry)) ⌝ }
+{
+    out[0] = tens(n);
+    out[1] = units(n);
+}
+
+// The last k hex digits, from the last one back.
+pub(crate) fn put_hex(out: &mut [u8], k: usize, w: u32)
+    requires { ⌜ k ≤ length (now out) ⌝ }
+    ensures { λ _. ⌜ now (out .exit) ≡ atFront (hexDigits k w) (now (out .entry)) ⌝ }
+{
+    let mut rest = w;
+    let mut i = k;
+    while i > 0 {
+        i -= 1;
+        out[i] = DIGITS[(rest % 16) as usize];
+        rest /= 16;
+    }
+}
+
+pub(crate) fn put_hyphens(out: &mut [u8], k: usize)
+    requires { ⌜ k ≤ length (now out) ⌝ }
+    ensures { λ _. ⌜ now (out .exit) ≡ atFront (hyphens k) (now (out .entry)) ⌝ }
+{
+    let mut i = 0;
+    while i < k {
+        out[i] = b'-';
+        i += 1;
+    }
+}

@@ -1,0 +1,33 @@
+// What a row of the trace says of one cycle. Its text is defined in `specs/`. There is no code.
+
+use register::Register;
+use table::Pointer;
+
+// The word in a stage.
+pub enum Stage {
+    Empty,
+    Holds(u32),
+}
+
+// For each field of EX's instruction, whether it takes WB's value.
+pub struct Flags {
+    pub rs1: bool,
+    pub rs2: bool,
+    pub rs3: bool,
+}
+
+// The register that WB writes, and its new value.
+pub enum Change {
+    Nothing,
+    To(Pointer, Register),
+}
+
+pub struct Row {
+    pub cycle: u32,
+    pub fetch: Stage,
+    pub decode: Stage,
+    pub execute: Stage,
+    pub write: Stage,
+    pub flags: Flags,
+    pub change: Change,
+}

@@ -1,3 +1,0 @@
-pub mod Says
-pub mod Call
-pub mod Happened

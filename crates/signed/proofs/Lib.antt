@@ -1,4 +1,0 @@
-pub mod Integers
-pub mod Signed
-pub mod Reader
-pub mod Unique

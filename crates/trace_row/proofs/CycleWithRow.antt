@@ -1,0 +1,70 @@
+-- What a cycle with a row answers, from what the cycle and the writer of the row give. Carried by rewriting each test as it came out.
+-- Assumes nothing.
+use Prim.Native.Nat.{ℕ, _+_}
+use mathlib.Core.Path.{_≡_, refl, sym, ap, _∙_}
+use mathlib.Core.Bool.{Bool, true, false}
+use mathlib.Core.List.{List}
+use native.Mathlib.Omega.{arith}
+use lib.Dec.{ltb}
+use lib.ListN.{length}
+use Rattle.table.specs.Refusal.{ROOM}
+use Rattle.row_rules.specs.declared.Row.{Row}
+use Rattle.row_rules.specs.Text.{rowSize, rowAt}
+use Rattle.unit_rules.specs.declared.Unit.{Unit}
+use Rattle.unit_rules.specs.declared.Cycled.{Cycled}
+use Rattle.unit_rules.specs.Cycle.{cycleOf}
+use Rattle.unit_rules.specs.Record.{drainedOf, wellMadeOf}
+use Rattle.unit_rules.specs.Calls.{cycledOf}
+use Rattle.unit_rules.specs.declared.InFlight.{InFlight}
+use Rattle.unit_rules.specs.Stages.{inFlightOf}
+use Rattle.trace_rules.proofs.Going.{Going, goes}
+use Rattle.trace_rules.specs.RowOfCycle.{shownBy, shownOf}
+use Rattle.trace_rules.specs.Call.{tracedOf}
+
+module _ (u : Unit) (start : ℕ) (buffer : List ℕ) {after : Cycled} (cycled : after ≡ cycledOf u) where
+  pub not-cycled : (after .refusal ≡ 0 → ⊥) → (after, buffer) ≡ tracedOf u start buffer
+  unfolding cycledOf tracedOf
+  not-cycled h = go (wellMadeOf u) refl (drainedOf u) refl
+    where
+      go : (t : Bool) → wellMadeOf u ≡ t → (s : Bool) → drainedOf u ≡ s → (after, buffer) ≡ tracedOf u start buffer
+      go false q s p = rw (cycled, q)
+      go true q true p = rw (cycled, q, p)
+      go true q false p = absurd (h (ap (λ (c : Cycled). c .refusal) cycled ∙ rw (q, p)))
+
+  module _ (ok : after .refusal ≡ 0) {l : InFlight} {row : Row} {number : ℕ} {new : List ℕ}
+      (at-start : l ≡ inFlightOf u) (said : row ≡ shownBy (after .unit .cycle) (after .unit .fetched) (l .fetched) (l .decoded) (l .executed)) (put : (number, new) ≡ rowAt row start buffer) where
+    going : Going u
+    going = goes u (sym (ap (λ (c : Cycled). c .refusal) cycled) ∙ ok)
+
+    one-cycle : after ≡ record { refusal = 0; unit = cycleOf u }
+    one-cycle = cycled ∙ going .gone
+
+    its-row : row ≡ shownOf u
+    unfolding cycleOf
+    its-row = said ∙ rw (at-start, one-cycle)
+
+    put-so : (number, new) ≡ rowAt (shownOf u) start buffer
+    put-so = put ∙ ap (λ (r : Row). rowAt r start buffer) its-row
+
+    pub row-refused : (number ≡ 0 → ⊥) → _≡_ {A = Cycled × List ℕ} (record { refusal = number; unit = u }, new) (tracedOf u start buffer)
+    unfolding tracedOf rowAt
+    row-refused h = go (ltb (length buffer) (start + rowSize)) refl
+      where
+        go : (t : Bool) → ltb (length buffer) (start + rowSize) ≡ t → _≡_ {A = Cycled × List ℕ} (record { refusal = number; unit = u }, new) (tracedOf u start buffer)
+        go true q =
+            let same = rw q at put-so in
+            rw (going .made, going .more, q) (λ i. (record { refusal = same i .0; unit = u }, same i .1))
+        go false q = let same = rw q at put-so in absurd (h (ap (λ (z : ℕ × List ℕ). z .0) same))
+
+    pub row-put : number ≡ 0 → (after, new) ≡ tracedOf u start buffer
+    unfolding tracedOf rowAt
+    row-put h = go (ltb (length buffer) (start + rowSize)) refl
+      where
+        go : (t : Bool) → ltb (length buffer) (start + rowSize) ≡ t → (after, new) ≡ tracedOf u start buffer
+        go true q =
+            let same = rw q at put-so in
+            let room : number ≡ ROOM = ap (λ (z : ℕ × List ℕ). z .0) same in
+            absurd (omega arith)
+        go false q =
+            let same = rw q at put-so in
+            rw (going .made, going .more, q) (λ i. (one-cycle i, same i .1))

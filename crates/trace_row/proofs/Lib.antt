@@ -1,0 +1,2 @@
+pub mod CycleWithRow
+pub mod Unique

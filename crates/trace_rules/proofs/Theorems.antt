@@ -1,0 +1,221 @@
+-- For the reader of specs/: what a row says is what happened. Carried by where the latches are (`Control` of crate `model`) and by the cases of a latch.
+-- Assumes nothing.
+use Prim.Native.Nat.{ℕ, suc, _+_, _-_, _<_, _≤_}
+use mathlib.Core.Path.{_≡_, refl, sym, ap, subst, _∙_}
+use mathlib.Core.Logic.{_⊎_, ⊎-elim}
+use mathlib.Core.Bool.{Bool, true, false, cond, _&&_, and-false}
+use mathlib.Core.List.{List}
+use native.Mathlib.Omega.{arith}
+use borrow.Author.Tests.{leb-false, lt-leb}
+use lib.Dec.{ltb, leb}
+use lib.ListN.{length, getD, take}
+use Rattle.register.specs.declared.Register.{Register}
+use Rattle.table.specs.declared.Pointer.{Pointer}
+use Rattle.table.specs.declared.Target.{Target}
+use Rattle.table.specs.declared.Target.the-variants.{None, To as ToRegister}
+use Rattle.table.specs.Fields.{isLi, rdOf, firstOf, rs2Of, rs3Of}
+use Rattle.table.specs.Operation.{Operation, operationOf, readsOf, takesSecond, takesThird, isNop, targetOf}
+use Rattle.plain_rules.specs.Machine.{stored, plain}
+use Rattle.job_rules.specs.Layout.{instructionsAt}
+use Rattle.job_rules.specs.Read.{readOf}
+use Rattle.job_rules.specs.Write.{programOf}
+use Rattle.row_rules.specs.declared.Stage.{Stage}
+use Rattle.row_rules.specs.declared.Stage.the-variants as In
+use Rattle.row_rules.specs.declared.Change.{Change}
+use Rattle.row_rules.specs.declared.Change.the-variants.{Nothing}
+use Rattle.row_rules.specs.Text.{rowSize}
+use Rattle.unit_rules.specs.declared.Instruction.{Instruction}
+use Rattle.unit_rules.specs.declared.IfId.{IfId}
+use Rattle.unit_rules.specs.declared.IfId.the-variants as IF/ID
+use Rattle.unit_rules.specs.declared.IdEx.{IdEx}
+use Rattle.unit_rules.specs.declared.IdEx.the-variants as ID/EX
+use Rattle.unit_rules.specs.declared.ExWb.{ExWb}
+use Rattle.unit_rules.specs.declared.ExWb.the-variants as EX/WB
+use Rattle.unit_rules.specs.declared.Unit.{Unit}
+use Rattle.unit_rules.specs.declared.Cycled.{Cycled}
+use Rattle.unit_rules.specs.Cycle.{instructionOf, isTarget, afterWB, afterIF, cycleOf}
+use Rattle.unit_rules.specs.Record.{inDecoded, inExecuted, lastOf, heldOf, drainedOf, wellMadeOf}
+use Rattle.unit_rules.specs.Calls.{registersSet, startOf, cycledOf}
+use Rattle.unit_rules.specs.Sequence.{Whole, afterCalls}
+use Rattle.unit_rules.proofs.Positions.{placed-cycle, held-later, drained-is}
+use Rattle.unit_rules.proofs.WellMade.{well-made-says, last-small}
+use Rattle.unit_rules.proofs.Demand3.{demand3-registers, demand3-cycle-answers}
+use Rattle.trace_rules.proofs.Going.{goes}
+use Rattle.trace_rules.specs.RowOfCycle.{stageOf, readsRs1, writesTo, flagsOf, changeTo, changeOf, shownBy, shownOf}
+use Rattle.trace_rules.specs.Call.{tracedOf}
+use Rattle.trace_rules.specs.Happened.{changedBy, isNothing, writesNothing, shows, flagsShown}
+
+-- ---- the stages
+
+-- "in cycle c, counted from 1 at the start, IF, ID, EX and WB hold instructions c-1, c-2, c-3 and c-4 (from 0), or nothing outside 0 .. n-1"
+pub row-stages : (u : Unit) → wellMadeOf u ≡ true
+    → (shownOf u .cycle ≡ u .cycle + 1)
+    × (shownOf u .fetch ≡ stageOf (heldOf (u .program) (u .n .0) 1 (u .cycle + 1)))
+    × (shownOf u .decode ≡ stageOf (heldOf (u .program) (u .n .0) 2 (u .cycle + 1)))
+    × (shownOf u .execute ≡ stageOf (heldOf (u .program) (u .n .0) 3 (u .cycle + 1)))
+    × (shownOf u .write ≡ stageOf (heldOf (u .program) (u .n .0) 4 (u .cycle + 1)))
+unfolding shownBy cycleOf
+row-stages u made =
+    let h = well-made-says u made .placed in
+    let later = held-later (u .program) (u .n .0) in (
+      refl,
+      ap stageOf (placed-cycle u h .in-IF/ID),
+      ap stageOf (h .in-IF/ID ∙ later 1 (u .cycle)),
+      ap stageOf (h .in-ID/EX ∙ later 2 (u .cycle)),
+      ap stageOf (h .in-EX/WB ∙ later 3 (u .cycle)),
+    )
+
+-- "cycle (two decimal digits, 67 at most)"
+pub row-cycle : (u : Unit) → cycledOf u .refusal ≡ 0 → shownOf u .cycle ≤ 67
+unfolding shownBy
+row-cycle u e =
+    let going = goes u e in
+    let more = leb-false (lastOf (u .n .0)) (u .cycle) (sym (drained-is u (well-made-says u (going .made) .placed)) ∙ going .more) in
+    omega (arith, more, last-small u (going .made))
+
+-- ---- the register written, and its new value
+
+change-by : (latch : ExWb) (f : List Register) → changedBy (changeOf latch) f ≡ afterWB latch f
+change-by EX/WB.Empty f = refl
+change-by (EX/WB.Holds i o) f = go (i .target)
+  where
+    go : (t : Target) → changedBy (changeTo t (o .value)) f ≡ stored t (o .value) f
+    go None = refl
+    go (ToRegister p) = refl
+
+-- the register and the value that a row shows are those by which the cycle changes the registers
+pub row-change : (u : Unit) → cycleOf u .registers ≡ changedBy (shownOf u .change) (u .registers)
+unfolding shownBy cycleOf
+row-change u = sym (change-by (u .executed) (u .registers))
+
+-- every instruction that a well-made unit holds is the instruction of its word
+abbrev heldIn : IfId → Instruction
+heldIn IF/ID.Empty = instructionOf 0
+heldIn (IF/ID.Holds i) = i
+
+abbrev OfItsWord : IfId → Type 0
+OfItsWord z = heldIn z ≡ instructionOf (heldIn z .word)
+
+held-of-its-word : (p : List ℕ) (n k c : ℕ) → OfItsWord (heldOf p n k c)
+held-of-its-word p n k c = held (leb k c)
+  where
+    fetched : (t : Bool) → OfItsWord (cond t (IF/ID.Holds (instructionOf (getD p (c - k) 0))) IF/ID.Empty)
+    fetched true = refl
+    fetched false = refl
+
+    held : (t : Bool) → OfItsWord (cond t (afterIF p n (c - k)) IF/ID.Empty)
+    held true = fetched (ltb (c - k) n)
+    held false = refl
+
+nothing-of : (latch : ExWb) → OfItsWord (inExecuted latch) → isNothing (changeOf latch) ≡ writesNothing (stageOf (inExecuted latch))
+unfolding targetOf
+nothing-of EX/WB.Empty e = refl
+nothing-of (EX/WB.Holds i o) e = rw (ap (λ (j : Instruction). j .target) e) (go (isNop (i .word)))
+  where
+    go : (t : Bool) → isNothing (changeTo (cond t None (ToRegister (rdOf (i .word)))) (o .value)) ≡ t
+    go true = refl
+    go false = refl
+
+-- `--` exactly where nothing was written: WB "is empty or holds a NOP"
+pub row-nothing : (u : Unit) → wellMadeOf u ≡ true → isNothing (shownOf u .change) ≡ writesNothing (shownOf u .write)
+unfolding shownBy
+row-nothing u made =
+    let here = well-made-says u made .placed .in-EX/WB in
+    nothing-of (u .executed) (subst OfItsWord (sym here) (held-of-its-word (u .program) (u .n .0) 3 (u .cycle)))
+
+-- ---- the flags
+
+shows-to : (target : Target) (v : Register) (p : Pointer) → isTarget target p ≡ shows (changeTo target v) p
+shows-to None v p = refl
+shows-to (ToRegister q) v p = refl
+
+shows-of : (latch : ExWb) (p : Pointer) → writesTo latch p ≡ shows (changeOf latch) p
+shows-of EX/WB.Empty p = refl
+shows-of (EX/WB.Holds i o) p = shows-to (i .target) (o .value) p
+
+flags-by : (wb : ExWb) (ex : IdEx) → OfItsWord (inDecoded ex) → flagsOf wb ex ≡ flagsShown (stageOf (inDecoded ex)) (changeOf wb)
+flags-by wb ID/EX.Empty e = refl
+flags-by wb (ID/EX.Holds i o) e =
+    let first = there (i .first) (firstOf (i .word)) (ap (λ (j : Instruction). j .first) e) in
+    let second = there (i .second) (rs2Of (i .word)) (ap (λ (j : Instruction). j .second) e) in
+    let third = there (i .third) (rs3Of (i .word)) (ap (λ (j : Instruction). j .third) e) in
+    λ k. record {
+      rs1 = readsRs1 (readsOf (operationOf (i .word))) && first k;
+      rs2 = takesSecond (readsOf (operationOf (i .word))) && second k;
+      rs3 = takesThird (readsOf (operationOf (i .word))) && third k;
+    }
+  where
+    there : (p q : Pointer) → p ≡ q → writesTo wb p ≡ shows (changeOf wb) q
+    there p q same = shows-of wb p ∙ ap (shows (changeOf wb)) same
+
+-- "A flag is 1 exactly when EX's instruction reads that field by the table and WB writes that register": by what else the row shows
+pub row-flags : (u : Unit) → wellMadeOf u ≡ true → shownOf u .flags ≡ flagsShown (shownOf u .execute) (shownOf u .change)
+unfolding shownBy
+row-flags u made =
+    let here = well-made-says u made .placed .in-ID/EX in
+    flags-by (u .executed) (u .decoded) (subst OfItsWord (sym here) (held-of-its-word (u .program) (u .n .0) 2 (u .cycle)))
+
+-- "li has no rs1, rs2 or rs3, so its flags are 000"
+pub li-raises-nothing : (w : ℕ) (x : Change) → isLi w ≡ true → flagsShown (In.Holds w) x ≡ record { rs1 = false; rs2 = false; rs3 = false }
+unfolding operationOf
+li-raises-nothing w x h = rw h
+
+-- the immediate of SHRHI or MLHCU is no register pointer
+pub immediate-raises-nothing : (w : ℕ) (x : Change) → (operationOf w ≡ Operation.shrhi) ⊎ (operationOf w ≡ Operation.mlhcu) → flagsShown (In.Holds w) x .rs2 ≡ false
+immediate-raises-nothing w x = ⊎-elim (λ e. rw e) (λ e. rw e)
+
+-- "it never forwards": where nothing is written, as with a NOP in WB, no flag is raised
+pub nothing-raises-nothing : (s : Stage) → flagsShown s Nothing ≡ record { rs1 = false; rs2 = false; rs3 = false }
+nothing-raises-nothing In.Empty = refl
+nothing-raises-nothing (In.Holds w) = simp and-false
+
+-- ---- the call
+
+module _ (u : Unit) (start : ℕ) (buffer : List ℕ) where
+  -- "unit, register file and buffers stay unaltered"
+  pub refused-unaltered : (tracedOf u start buffer .0 .refusal ≡ 0 → ⊥) → (tracedOf u start buffer .0 .unit ≡ u) × (tracedOf u start buffer .1 ≡ buffer)
+  unfolding tracedOf
+  refused-unaltered h = go (wellMadeOf u) refl (drainedOf u) refl (ltb (length buffer) (start + rowSize)) refl
+    where
+      go : (t : Bool) → wellMadeOf u ≡ t → (s : Bool) → drainedOf u ≡ s → (r : Bool) → ltb (length buffer) (start + rowSize) ≡ r
+          → (tracedOf u start buffer .0 .unit ≡ u) × (tracedOf u start buffer .1 ≡ buffer)
+      go false made s drained r short = rw made (refl, refl)
+      go true made true drained r short = rw (made, drained) (refl, refl)
+      go true made false drained true short = rw (made, drained, short) (refl, refl)
+      go true made false drained false short = absurd (h (rw (made, drained, short)))
+
+  -- a cycle with a row leaves the unit that a cycle leaves
+  pub as-without-a-row : tracedOf u start buffer .0 .refusal ≡ 0 → tracedOf u start buffer .0 ≡ cycledOf u
+  unfolding tracedOf cycledOf
+  as-without-a-row h = go (wellMadeOf u) refl (drainedOf u) refl (ltb (length buffer) (start + rowSize)) refl
+    where
+      go : (t : Bool) → wellMadeOf u ≡ t → (s : Bool) → drainedOf u ≡ s → (r : Bool) → ltb (length buffer) (start + rowSize) ≡ r
+          → tracedOf u start buffer .0 ≡ cycledOf u
+      go false made s drained r short = rw made
+      go true made true drained r short = rw (made, drained)
+      go true made false drained true short = let no = rw (made, drained, short) at h in absurd (omega arith)
+      go true made false drained false short = rw (made, drained, short)
+
+-- ---- from a start
+
+module _ (file : List ℕ) (u : Unit) (whole : Whole (u .registers)) (accepts : startOf file u .refusal ≡ 0) (c : ℕ)
+    (early : c < lastOf (readOf instructionsAt file .job .n .0)) where
+  abbrev before : Unit
+  before = afterCalls c (startOf file u .unit)
+
+  abbrev program : List ℕ
+  program = programOf (readOf instructionsAt file .job)
+
+  abbrev set : List Register
+  set = registersSet (readOf instructionsAt file .job .r) (readOf instructionsAt file .job .registers) (u .registers)
+
+  -- the row of cycle c + 1 of a started job shows by what the plain machine's next word changes the registers
+  pub started-row : plain (take (suc c - 3) program) set ≡ changedBy (shownOf before .change) (plain (take (c - 3) program) set)
+  started-row =
+      let answers : cycledOf before .refusal ≡ 0
+      = rw (lt-leb (lastOf (readOf instructionsAt file .job .n .0)) c early) at (demand3-cycle-answers file u whole accepts c (omega arith)) in
+      let next : cycledOf before .unit ≡ cycleOf before = ap (λ (a : Cycled). a .unit) (goes before answers .gone) in
+      sym (demand3-registers file u whole accepts (suc c) (omega arith))
+      ∙ ap (λ (v : Unit). v .registers) next
+      ∙ row-change before
+      ∙ ap (changedBy (shownOf before .change)) (demand3-registers file u whole accepts c (omega arith))

@@ -1,0 +1,45 @@
+-- What happened in a cycle, as its row says it.
+-- Assumes nothing.
+use mathlib.Core.Bool.{Bool, true, false, _&&_}
+use mathlib.Core.List.{List}
+use lib.Dec.{eqb}
+use lib.ListN.{set}
+use Rattle.register.specs.declared.Register.{Register}
+use Rattle.table.specs.declared.Pointer.{Pointer}
+use Rattle.table.specs.Fields.{firstOf, rs2Of, rs3Of}
+use Rattle.table.specs.Operation.{operationOf, readsOf, takesSecond, takesThird, isNop}
+use Rattle.row_rules.specs.declared.Stage.{Stage}
+use Rattle.row_rules.specs.declared.Stage.the-variants as In
+use Rattle.row_rules.specs.declared.Flags.{Flags}
+use Rattle.row_rules.specs.declared.Change.{Change}
+use Rattle.row_rules.specs.declared.Change.the-variants.{Nothing, To}
+use Rattle.trace_rules.specs.RowOfCycle.{readsRs1}
+
+-- the registers after the change that a row shows
+abbrev pub changedBy : Change → List Register → List Register
+changedBy Nothing f = f
+changedBy (To p v) f = set f (p .0) v
+
+-- whether a row shows `--`
+abbrev pub isNothing : Change → Bool
+isNothing Nothing = true
+isNothing (To p v) = false
+
+-- whether the word that a row shows in WB writes nothing: "it is empty or holds a NOP"
+abbrev pub writesNothing : Stage → Bool
+writesNothing In.Empty = true
+writesNothing (In.Holds w) = isNop w
+
+-- whether a row shows that this register was written
+abbrev pub shows : Change → Pointer → Bool
+shows Nothing p = false
+shows (To q v) p = eqb (q .0) (p .0)
+
+-- the flags by what else a row shows: the word in EX, and the register written
+abbrev pub flagsShown : Stage → Change → Flags
+flagsShown In.Empty x = record { rs1 = false; rs2 = false; rs3 = false }
+flagsShown (In.Holds w) x = record {
+  rs1 = readsRs1 (readsOf (operationOf w)) && shows x (firstOf w);
+  rs2 = takesSecond (readsOf (operationOf w)) && shows x (rs2Of w);
+  rs3 = takesThird (readsOf (operationOf w)) && shows x (rs3Of w);
+}

@@ -1,0 +1,3 @@
+pub mod RowOfCycle
+pub mod Call
+pub mod Happened

@@ -1,0 +1,5 @@
+pub mod Text
+pub mod Loop
+pub mod TextPut
+pub mod Theorems
+pub mod Unique

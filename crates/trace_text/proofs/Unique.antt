@@ -1,0 +1,14 @@
+-- For every public function: no second answer and no second buffer fits its contract, since the contract is one equation of both.
+-- Assumes nothing.
+use Prim.Native.Nat.{ℕ}
+use mathlib.Core.Path.{sym, ap, _∙_}
+use mathlib.Core.List.{List}
+use Rattle.determined.specs.Determined.{Determined}
+use Rattle.trace_text.specs.declared.TextAnswer.{TextAnswer}
+use Rattle.trace_text.proofs.write_text.Kinds as write-text-kinds
+use Rattle.trace_text.proofs.write_text.Reads as write-text-reads
+
+pub write-text-unique : Determined 2 write-text-kinds.ps write-text-kinds.r write-text-reads.Post
+write-text-unique κs a x y v w p q =
+    let same = p ∙ sym q in
+    (ap (λ (z : TextAnswer × List ℕ). z .0) same, λ i. (v .0, (ap (λ (z : TextAnswer × List ℕ). z .1) same i, v .1 .1)))

@@ -1,0 +1,4 @@
+pub mod RecordNumbers
+pub mod Equality
+pub mod WellMade
+pub mod Unique

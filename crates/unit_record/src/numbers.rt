@@ -1,0 +1,44 @@
+// The numbers of a unit's record: the cycle at which a program is drained, and whether n, the count and the cycle number fit the program.
+
+ghost use Prim.Native.Nat.{min};
+ghost use mathlib.Core.Path.{_≡_};
+ghost use Rattle.unit_rules.specs.Record.{lastOf, numbersMade};
+use table::Count;
+use table::refusal;
+
+// The lesser of two numbers.
+pub fn lesser(a: u32, b: u32) -> u32
+    ensures { λ r. ⌜ r ≡ min a b ⌝ }
+{
+    if a < b {
+        return a;
+    }
+    b
+}
+
+// The cycle number at which a program of n lines is drained.
+pub fn last(n: Count) -> u32
+    ensures { λ r. ⌜ r ≡ lastOf (n .0) ⌝ }
+{
+    if n.0 == 0 {
+        return 0;
+    }
+    n.0 as u32 + 3
+}
+
+// Whether n, the words, the cycle number and the count are those of a well-made record.
+pub fn numbers_made(program: [u32; 64], n: Count, count: Count, cycle: u32) -> bool
+    ensures { λ r. ⌜ r ≡ numbersMade program (n .0) (count .0) cycle ⌝ }
+{
+    let lines = n.0 as usize;
+    if lines > 64 {
+        return false;
+    }
+    if refusal::first_bad(&program[..lines]) < lines {
+        return false;
+    }
+    if last(n) < cycle {
+        return false;
+    }
+    count.0 as u32 == lesser(cycle, n.0 as u32)
+}

@@ -1,0 +1,108 @@
+-- What each call on a unit answers, for every unit whatsoever.
+-- Assumes nothing.
+use Prim.Native.Nat.{ℕ, zero, suc, _+_}
+use mathlib.Core.Bool.{false, cond, not}
+use mathlib.Core.List.{List}
+use lib.Dec.{eqb, ltb}
+use lib.ListN.{getD, set, replicate}
+use Rattle.register.specs.declared.Register.{Register}
+use Rattle.register.specs.Layout.{zeroRegister}
+use Rattle.table.specs.declared.Count.{Count}
+use Rattle.table.specs.Refusal.{POINTER, DRAINED, STATE}
+use Rattle.job_rules.specs.declared.Job.{Job}
+use Rattle.job_rules.specs.declared.ReadJob.{ReadJob}
+use Rattle.job_rules.specs.Layout.{instructionsAt}
+use Rattle.job_rules.specs.Read.{readOf}
+use Rattle.unit_rules.specs.declared.IfId.the-variants as IF/ID
+use Rattle.unit_rules.specs.declared.IdEx.the-variants as ID/EX
+use Rattle.unit_rules.specs.declared.ExWb.the-variants as EX/WB
+use Rattle.unit_rules.specs.declared.Unit.{Unit}
+use Rattle.unit_rules.specs.declared.Started.{Started}
+use Rattle.unit_rules.specs.declared.Cycled.{Cycled}
+use Rattle.unit_rules.specs.declared.Ran.{Ran}
+use Rattle.unit_rules.specs.declared.RegisterAnswer.{RegisterAnswer}
+use Rattle.unit_rules.specs.declared.Drained.{Drained}
+use Rattle.unit_rules.specs.Cycle.{cycleOf}
+use Rattle.unit_rules.specs.Record.{drainedOf, wellMadeOf}
+
+-- ---- a start
+
+-- a unit before its first cycle, on a program of n lines and some registers
+abbrev pub begunOf : List ℕ → Count → List Register → Unit
+begunOf program n registers = record {
+  program = program;
+  n = n;
+  count = record { 0 = 0 };
+  cycle = 0;
+  registers = registers;
+  fetched = IF/ID.Empty;
+  decoded = ID/EX.Empty;
+  executed = EX/WB.Empty;
+}
+
+-- "A fresh unit has n = 0, registers zero, and is drained."
+abbrev pub freshOf : Unit
+freshOf = begunOf (replicate 64 0) (record { 0 = 0 }) (replicate 32 zeroRegister)
+
+-- "A start sets registers 0 .. r-1 from the file; the others keep what they held."
+abbrev pub registersSet : ℕ → List Register → List Register → List Register
+registersSet zero file f = f
+registersSet (suc i) file f = set (registersSet i file f) i (getD file i zeroRegister)
+
+-- a load sets program and registers
+abbrev pub loadedOf : Job → Unit → Unit
+loadedOf job u = record {
+  program = job .words;
+  n = job .n;
+  count = u .count;
+  cycle = u .cycle;
+  registers = registersSet (job .r) (job .registers) (u .registers);
+  fetched = u .fetched;
+  decoded = u .decoded;
+  executed = u .executed;
+}
+
+-- "A start empties the latches and puts count and cycle number to zero; what a broken-off job had not yet written is lost.": a go
+abbrev pub goneOf : Unit → Unit
+goneOf u = begunOf (u .program) (u .n) (u .registers)
+
+-- a start is a go after a load; it "tests 1 to 6", as reading does; refused, the unit "comes back as it was given"
+abbrev pub startedBy : ReadJob → Unit → Started
+startedBy read u = record {
+  refusal = read .refusal;
+  place = read .place;
+  unit = cond (eqb (read .refusal) 0) (goneOf (loadedOf (read .job) u)) u;
+}
+
+unfoldable pub startOf : List ℕ → Unit → Started
+startOf file u = startedBy (readOf instructionsAt file) u
+
+-- ---- the other calls: "Every call on a unit but a start tests 10 first"
+
+-- "then a cycle tests 8"
+unfoldable pub cycledOf : Unit → Cycled
+cycledOf u =
+    cond (not (wellMadeOf u)) (record { refusal = STATE; unit = u })
+    (cond (drainedOf u) (record { refusal = DRAINED; unit = u })
+    (record { refusal = 0; unit = cycleOf u }))
+
+-- as many cycles as the budget allows and the unit has left: how many, and the unit afterwards
+unfoldable pub goesOn : ℕ → Unit → ℕ × Unit
+goesOn zero u = (0, u)
+goesOn (suc k) u = cond (drainedOf u) (0, u) (goesOn k (cycleOf u) .0 + 1, goesOn k (cycleOf u) .1)
+
+-- "A run with a budget k makes min(k, cycles left) cycles and answers that number; drained, it answers 0 and is not refused."
+unfoldable pub ranOf : Unit → ℕ → Ran
+ranOf u k =
+    cond (not (wellMadeOf u)) (record { refusal = STATE; made = 0; unit = u })
+    (record { refusal = 0; made = goesOn k u .0; unit = goesOn k u .1 })
+
+-- "and a register asked by number 7"
+unfoldable pub registerOf : Unit → ℕ → RegisterAnswer
+registerOf u i =
+    cond (not (wellMadeOf u)) (record { refusal = STATE; register = zeroRegister })
+    (cond (ltb 31 i) (record { refusal = POINTER; register = zeroRegister })
+    (record { refusal = 0; register = getD (u .registers) i zeroRegister }))
+
+unfoldable pub askedDrained : Unit → Drained
+askedDrained u = cond (not (wellMadeOf u)) (record { refusal = STATE; drained = false }) (record { refusal = 0; drained = drainedOf u })

@@ -1,0 +1,5 @@
+pub mod Cycle
+pub mod Record
+pub mod Calls
+pub mod Sequence
+pub mod Stages

@@ -1,0 +1,79 @@
+-- When a unit is drained, and when its record is well made.
+-- Assumes nothing.
+use Prim.Native.Nat.{ℕ, _+_, _-_, min}
+use mathlib.Core.Bool.{Bool, true, false, cond, _&&_}
+use mathlib.Core.List.{List}
+use lib.Dec.{eqb, leb}
+use lib.ListN.{take}
+use Rattle.table.specs.declared.Target.{Target}
+use Rattle.table.specs.declared.Target.the-variants.{None, To}
+use Rattle.table.specs.Refusal.{firstBad}
+use Rattle.unit_rules.specs.declared.Instruction.{Instruction}
+use Rattle.unit_rules.specs.declared.IfId.{IfId}
+use Rattle.unit_rules.specs.declared.IfId.the-variants as IF/ID
+use Rattle.unit_rules.specs.declared.IdEx.{IdEx}
+use Rattle.unit_rules.specs.declared.IdEx.the-variants as ID/EX
+use Rattle.unit_rules.specs.declared.ExWb.{ExWb}
+use Rattle.unit_rules.specs.declared.ExWb.the-variants as EX/WB
+use Rattle.unit_rules.specs.declared.Unit.{Unit}
+use Rattle.unit_rules.specs.Cycle.{afterIF}
+
+-- the instruction that a latch holds, or nothing, without its values
+abbrev pub inDecoded : IdEx → IfId
+inDecoded ID/EX.Empty = IF/ID.Empty
+inDecoded (ID/EX.Holds i o) = IF/ID.Holds i
+
+abbrev pub inExecuted : ExWb → IfId
+inExecuted EX/WB.Empty = IF/ID.Empty
+inExecuted (EX/WB.Holds i o) = IF/ID.Holds i
+
+abbrev pub isEmpty : IfId → Bool
+isEmpty IF/ID.Empty = true
+isEmpty (IF/ID.Holds i) = false
+
+-- "The unit is drained when the count has reached n and all latches are empty."
+unfoldable pub drainedOf : Unit → Bool
+drainedOf u =
+    leb (u .n .0) (u .count .0)
+    && isEmpty (u .fetched) && isEmpty (inDecoded (u .decoded)) && isEmpty (inExecuted (u .executed))
+
+-- "n+3 (0 when n is 0)"
+abbrev pub lastOf : ℕ → ℕ
+lastOf n = cond (eqb n 0) 0 (n + 3)
+
+-- "instructions c-1, c-2 and c-3, or nothing outside 0 .. n-1": instruction c-k of n
+abbrev pub heldOf : List ℕ → ℕ → ℕ → ℕ → IfId
+heldOf program n k c = cond (leb k c) (afterIF program n (c - k)) IF/ID.Empty
+
+-- the same instruction, the word and all that a latch says of it
+abbrev pub sameTarget : Target → Target → Bool
+sameTarget None None = true
+sameTarget None (To q) = false
+sameTarget (To p) None = false
+sameTarget (To p) (To q) = eqb (p .0) (q .0)
+
+abbrev pub sameInstruction : Instruction → Instruction → Bool
+sameInstruction i j =
+    eqb (i .word) (j .word)
+    && eqb (i .first .0) (j .first .0) && eqb (i .second .0) (j .second .0) && eqb (i .third .0) (j .third .0)
+    && sameTarget (i .target) (j .target)
+
+abbrev pub sameHeld : IfId → IfId → Bool
+sameHeld IF/ID.Empty IF/ID.Empty = true
+sameHeld IF/ID.Empty (IF/ID.Holds j) = false
+sameHeld (IF/ID.Holds i) IF/ID.Empty = false
+sameHeld (IF/ID.Holds i) (IF/ID.Holds j) = sameInstruction i j
+
+-- "n is at most 64, its n words are below 2^25, the cycle number c is at most n+3 (0 when n is 0), the count is the smaller of c and n"
+abbrev pub numbersMade : List ℕ → ℕ → ℕ → ℕ → Bool
+numbersMade program n count c = leb n 64 && leb n (firstBad (take n program)) && leb c (lastOf n) && eqb count (min c n)
+
+-- "and the latches hold instructions c-1, c-2 and c-3, or nothing outside 0 .. n-1"
+abbrev pub latchesMade : Unit → Bool
+latchesMade u =
+    sameHeld (u .fetched) (heldOf (u .program) (u .n .0) 1 (u .cycle))
+    && sameHeld (inDecoded (u .decoded)) (heldOf (u .program) (u .n .0) 2 (u .cycle))
+    && sameHeld (inExecuted (u .executed)) (heldOf (u .program) (u .n .0) 3 (u .cycle))
+
+unfoldable pub wellMadeOf : Unit → Bool
+wellMadeOf u = numbersMade (u .program) (u .n .0) (u .count .0) (u .cycle) && latchesMade u

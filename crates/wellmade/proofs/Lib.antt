@@ -1,2 +1,0 @@
-pub mod Recorded
-pub mod Unique
