@@ -27,6 +27,7 @@ fn subtract_halves_from(a: u32, b: u32) -> u32
     join_halfwords(hi, lo)
 }
 
+// SHRHI.
 pub fn shift_right(a: Register, field: u32) -> Register
     ensures { λ r. ⌜ r ≡ words₁ (λ (w : ℕ). SHRHI w field) a ⌝ }
 {
@@ -38,6 +39,7 @@ pub fn shift_right(a: Register, field: u32) -> Register
     }
 }
 
+// CNTIH.
 pub fn ones(a: Register) -> Register
     ensures { λ r. ⌜ r ≡ words₁ CNTIH a ⌝ }
 {
@@ -49,6 +51,7 @@ pub fn ones(a: Register) -> Register
     }
 }
 
+// AHS.
 pub fn add_clamped(a: Register, b: Register) -> Register
     ensures { λ r. ⌜ r ≡ halfwords₂ AHS a b ⌝ }
 {
@@ -60,7 +63,7 @@ pub fn add_clamped(a: Register, b: Register) -> Register
     }
 }
 
-// b - a: the table subtracts its first operand from its second.
+// SFHS, b - a: the table subtracts its first operand from its second.
 pub fn subtract_from_clamped(a: Register, b: Register) -> Register
     ensures { λ r. ⌜ r ≡ halfwords₂ SFHS a b ⌝ }
 {

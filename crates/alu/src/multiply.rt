@@ -90,6 +90,7 @@ fn multiply_longs(
     }
 }
 
+// The eight of the multiply family.
 pub fn multiply(
     long: bool,
     subtract: bool,

@@ -7,6 +7,7 @@ ghost use Rattle.alu_rules.specs.Lane.{AU, OR, MLHU, MLHCU, AND, CLZW, ROTW, SF
 ghost use Rattle.alu_rules.specs.Across.{words₁, words₂};
 use register::Register;
 
+// AU.
 pub fn add(a: Register, b: Register) -> Register
     ensures { λ r. ⌜ r ≡ words₂ AU a b ⌝ }
 {
@@ -18,6 +19,7 @@ pub fn add(a: Register, b: Register) -> Register
     }
 }
 
+// OR.
 pub fn or(a: Register, b: Register) -> Register
     ensures { λ r. ⌜ r ≡ words₂ OR a b ⌝ }
 {
@@ -29,7 +31,7 @@ pub fn or(a: Register, b: Register) -> Register
     }
 }
 
-// Word 3, the leftmost one.
+// BCW: word 3, the leftmost one.
 pub fn broadcast(a: Register) -> Register
     ensures { λ r. ⌜ r ≡ words₁ (λ (w : ℕ). a .w3) a ⌝ }
 {
@@ -41,6 +43,7 @@ pub fn broadcast(a: Register) -> Register
     }
 }
 
+// MAXWS.
 pub fn larger(a: Register, b: Register) -> Register
     ensures { λ r. ⌜ r ≡ words₂ MAXWS a b ⌝ }
 {
@@ -52,6 +55,7 @@ pub fn larger(a: Register, b: Register) -> Register
     }
 }
 
+// MINWS.
 pub fn smaller(a: Register, b: Register) -> Register
     ensures { λ r. ⌜ r ≡ words₂ MINWS a b ⌝ }
 {
@@ -63,6 +67,7 @@ pub fn smaller(a: Register, b: Register) -> Register
     }
 }
 
+// MLHU.
 pub fn multiply_low_halves(a: Register, b: Register) -> Register
     ensures { λ r. ⌜ r ≡ words₂ MLHU a b ⌝ }
 {
@@ -74,6 +79,7 @@ pub fn multiply_low_halves(a: Register, b: Register) -> Register
     }
 }
 
+// MLHCU.
 pub fn multiply_low_halves_by(a: Register, field: u32) -> Register
     ensures { λ r. ⌜ r ≡ words₁ (λ (w : ℕ). MLHCU w field) a ⌝ }
 {
@@ -85,6 +91,7 @@ pub fn multiply_low_halves_by(a: Register, field: u32) -> Register
     }
 }
 
+// AND.
 pub fn and(a: Register, b: Register) -> Register
     ensures { λ r. ⌜ r ≡ words₂ AND a b ⌝ }
 {
@@ -96,6 +103,7 @@ pub fn and(a: Register, b: Register) -> Register
     }
 }
 
+// CLZW.
 pub fn leading_zeros(a: Register) -> Register
     ensures { λ r. ⌜ r ≡ words₁ CLZW a ⌝ }
 {
@@ -107,6 +115,7 @@ pub fn leading_zeros(a: Register) -> Register
     }
 }
 
+// ROTW.
 pub fn rotate_right(a: Register, b: Register) -> Register
     ensures { λ r. ⌜ r ≡ words₂ ROTW a b ⌝ }
 {
@@ -118,7 +127,7 @@ pub fn rotate_right(a: Register, b: Register) -> Register
     }
 }
 
-// b - a: the table subtracts its first operand from its second.
+// SFWU, b - a: the table subtracts its first operand from its second.
 pub fn subtract_from(a: Register, b: Register) -> Register
     ensures { λ r. ⌜ r ≡ words₂ SFWU a b ⌝ }
 {

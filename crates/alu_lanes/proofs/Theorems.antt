@@ -1,4 +1,5 @@
--- For the reader of specs/: a difference added to again gives the number it was taken from, and the leading zeros end at the highest one.
+-- For the reader of the definitions: a difference added to again gives the number it was taken from; the leading zeros end at the highest one; `bits` and `signed`
+-- undo each other, and a clamped result read back is the exact result held between the bounds.
 -- Assumes nothing.
 use Prim.Native.Nat.{ℕ, suc, _+_, _-_, _*_, _%_, _^_, _<_, _≤_}
 use mathlib.Core.Path.{_≡_, ap, _∙_, sym}
@@ -28,7 +29,7 @@ leading-zeros-of-zero = leading-of-zero 32
 pub leading-zeros-end : (w : ℕ) → 0 < w → w < 2 ^ 32 → (j : ℕ) × (CLZW w + suc j ≡ 32) × (2 ^ j ≤ w) × (w < 2 ^ suc j)
 leading-zeros-end w some fits = leading-top 32 w some fits
 
--- ---- For the reader of specs/: `bits` and `signed` undo each other, and a clamped result read back is the exact result held between the bounds.
+-- ---- signed numbers and the clamp
 
 module _ (k : ℕ) (some : 0 < k) where
   read-pos : (n : ℕ) → n < 2 ^ (k - 1) → signed k (bits k (pos n)) ≡ pos n

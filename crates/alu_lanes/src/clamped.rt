@@ -6,6 +6,7 @@ use crate::sign::clamped_sum;
 use crate::sign::product;
 use crate::sign::sign_and_size;
 
+// SIMAL and SIMAH: rs1 + a x b, clamped to 32 bits.
 pub fn multiply_add_16(rs1: u32, a: u16, b: u16) -> u32
     ensures { λ r. ⌜ r ≡ multiplyAdd 16 rs1 a b ⌝ }
 {
@@ -13,6 +14,7 @@ pub fn multiply_add_16(rs1: u32, a: u16, b: u16) -> u32
     clamped_sum(32, rs1 as u64, p.negative, p.size) as u32
 }
 
+// SIMSL and SIMSH: rs1 - a x b, clamped to 32 bits.
 pub fn multiply_subtract_16(rs1: u32, a: u16, b: u16) -> u32
     ensures { λ r. ⌜ r ≡ multiplySubtract 16 rs1 a b ⌝ }
 {
@@ -20,6 +22,7 @@ pub fn multiply_subtract_16(rs1: u32, a: u16, b: u16) -> u32
     clamped_sum(32, rs1 as u64, !p.negative, p.size) as u32
 }
 
+// SLMAL and SLMAH: rs1 + a x b, clamped to 64 bits.
 pub fn multiply_add_32(rs1: u64, a: u32, b: u32) -> u64
     ensures { λ r. ⌜ r ≡ multiplyAdd 32 rs1 a b ⌝ }
 {
@@ -27,6 +30,7 @@ pub fn multiply_add_32(rs1: u64, a: u32, b: u32) -> u64
     clamped_sum(64, rs1, p.negative, p.size)
 }
 
+// SLMSL and SLMSH: rs1 - a x b, clamped to 64 bits.
 pub fn multiply_subtract_32(rs1: u64, a: u32, b: u32) -> u64
     ensures { λ r. ⌜ r ≡ multiplySubtract 32 rs1 a b ⌝ }
 {
@@ -34,6 +38,7 @@ pub fn multiply_subtract_32(rs1: u64, a: u32, b: u32) -> u64
     clamped_sum(64, rs1, !p.negative, p.size)
 }
 
+// AHS: a + b.
 pub fn add_clamped(a: u16, b: u16) -> u16
     ensures { λ r. ⌜ r ≡ AHS a b ⌝ }
 {
@@ -41,7 +46,7 @@ pub fn add_clamped(a: u16, b: u16) -> u16
     clamped_sum(16, a as u64, p.negative, p.size) as u16
 }
 
-// b - a: the table subtracts its first operand from its second.
+// SFHS, b - a: the table subtracts its first operand from its second.
 pub fn subtract_from_clamped(a: u16, b: u16) -> u16
     ensures { λ r. ⌜ r ≡ SFHS a b ⌝ }
 {

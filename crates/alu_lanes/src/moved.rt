@@ -3,6 +3,7 @@
 ghost use mathlib.Core.Path.{_≡_};
 ghost use Rattle.alu_rules.specs.Lane.{SHRHI, ROTW};
 
+// SHRHI: both halfwords of a word.
 pub fn shift_halfwords_right(w: u32, by: u32) -> u32
     ensures { λ r. ⌜ r ≡ SHRHI w by ⌝ }
 {
@@ -10,7 +11,7 @@ pub fn shift_halfwords_right(w: u32, by: u32) -> u32
     ((w / 0x1_0000) >> places) * 0x1_0000 + ((w % 0x1_0000) >> places)
 }
 
-// Two copies of the word side by side: what leaves the upper one on the right is what comes into the lower one on the left.
+// ROTW. Two copies of the word side by side: what leaves the upper one on the right is what comes into the lower one on the left.
 pub fn rotate_right(w: u32, by: u32) -> u32
     ensures { λ r. ⌜ r ≡ ROTW w by ⌝ }
 {

@@ -12,12 +12,14 @@ fn less(a: u32, b: u32) -> bool
     turn(32, a as u64) < turn(32, b as u64)
 }
 
+// MAXWS.
 pub fn larger(a: u32, b: u32) -> u32
     ensures { λ r. ⌜ r ≡ MAXWS a b ⌝ }
 {
     if less(a, b) { b } else { a }
 }
 
+// MINWS.
 pub fn smaller(a: u32, b: u32) -> u32
     ensures { λ r. ⌜ r ≡ MINWS a b ⌝ }
 {

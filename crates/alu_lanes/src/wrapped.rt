@@ -3,13 +3,14 @@
 ghost use mathlib.Core.Path.{_≡_};
 ghost use Rattle.alu_rules.specs.Lane.{AU, SFWU};
 
+// AU.
 pub fn add(a: u32, b: u32) -> u32
     ensures { λ r. ⌜ r ≡ AU a b ⌝ }
 {
     std::num::wrapping_add_u32(a, b)
 }
 
-// b - a: the table subtracts its first operand from its second.
+// SFWU, b - a: the table subtracts its first operand from its second.
 pub fn subtract_from(a: u32, b: u32) -> u32
     ensures { λ r. ⌜ r ≡ SFWU a b ⌝ }
 {

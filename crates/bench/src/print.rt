@@ -3,7 +3,7 @@
 use crate::texts;
 use crate::texts::form;
 use crate::texts::text;
-use libc::STDOUT_FILENO;
+use console::output::print;
 use register::Register;
 
 // The size of every buffer here: more than the largest job takes.
@@ -14,7 +14,7 @@ const DIGITS: [u8; 16] = *b"0123456789ABCDEF";
 fn byte(b: u8) {
     let digits = DIGITS;
     let both = [digits[(b / 16) as usize], digits[(b % 16) as usize]];
-    io::write_all(STDOUT_FILENO, &both);
+    print(&both);
 }
 
 // Where a header stands, up to the end of the line.

@@ -1,5 +1,6 @@
 // What the lines say. Every text stands in one constant, since a literal costs the check of its function more than all the calls around it.
 
+use console::output::print;
 use libc::STDOUT_FILENO;
 
 // Each text stands behind a `|`, and their numbers below are in the same order; a `#` stands for a number.
@@ -157,7 +158,7 @@ pub(crate) fn form(mut number: usize, mut first: usize, mut second: usize, third
                 first = second;
                 second = third;
             } else {
-                io::write_all(STDOUT_FILENO, &[byte]);
+                print(&[byte]);
             }
         }
         i += 1;

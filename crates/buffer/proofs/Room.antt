@@ -14,6 +14,14 @@ module _ (length start size : ℕ) {t : Bool} (test : t ≡ leb (start + size) l
   pub too-little : t ≡ false → length < start + size
   too-little h = leb-false _ _ (sym test ∙ h)
 
+  -- the part from the start on, of a buffer as long
+  module _ (room : t ≡ true) {m : ℕ} (same : m ≡ length) where
+    pub starts-within : start ≤ m
+    starts-within = omega (arith, enough room)
+
+    pub part-long : {k : ℕ} → k ≡ m - start → size ≤ k
+    part-long e = omega (arith, enough room)
+
 -- the two tests of the code are that one
 module _ (length start size : ℕ) where
   pub never : length < size → false ≡ leb (start + size) length

@@ -2,11 +2,11 @@
 -- Assumes nothing.
 use Prim.Native.Nat.{ℕ, _-_}
 use mathlib.Core.Path.{_≡_, refl}
-use mathlib.Core.List.{List, [], _∷_, _++_, flatMap}
+use mathlib.Core.List.{List, [], _∷_, flatMap}
 use lib.ListN.{replicate}
 use Rattle.table.specs.Refusal.{SHORT, COUNT, REGS, PLACE, LENGTH, WORD, ROOM, firstBad}
 use Rattle.job_rules.specs.Layout.{encode}
-use Rattle.job_rules.specs.Read.{testedOf, headerOf, bodyOf, numberOf, readOf}
+use Rattle.job_rules.specs.Read.{testedOf, headerOf, numberOf}
 use Rattle.job_rules.specs.Write.{sizeOrRefusal}
 
 -- the number that a header of these four numbers is refused with, on a file of so many bytes; 0 where it is not

@@ -1,3 +1,4 @@
+pub mod Shared
 pub mod Boundaries
 pub mod Pieces
 pub mod Refusals

@@ -1,22 +1,14 @@
 -- Pieces of k bytes, one after another: read one more, read back from what was written, and written back from what was read. Carried by induction
 -- on their number, once for words and registers.
 -- Assumes nothing.
-use Prim.Native.Nat.{ℕ, zero, suc, _+_, _-_, _*_, _≤_, _<_}
-use mathlib.Core.Path.{_≡_, refl, sym, ap, _∙_}
-use mathlib.Core.List.{List, [], _∷_, _++_, flatMap, append-assoc, append-nil}
-use native.Mathlib.Nat.{add-assoc, add-zero}
-use native.Mathlib.Omega.{arith}
+use Rattle.job_rules.proofs.Shared.{ℕ, zero, suc, _+_, _-_, _*_, _≤_, _<_, _≡_, refl, sym, ap, _∙_, List, [], _∷_, _++_, flatMap, append-assoc}
+use Rattle.job_rules.proofs.Shared.{append-nil, add-assoc, add-zero, arith, length, getD, take, drop, set, replicate, length-append}
+use Rattle.job_rules.proofs.Shared.{length-drop, set-at, append-snoc, drop-drop, getD-drop, take-suc, length-take-le, atFront, Register}
+use Rattle.job_rules.proofs.Shared.{wordAt, ofBytes, Bytes, instructionsAt, fourBytes, headerBytes, registerCount, encode, pieces, filled}
 use native.Mathlib.Numerals.{add-one, unary-clauses}
-use lib.ListN.{length, getD, take, drop, set, replicate, length-append, length-drop}
-use lib.Seq.{set-at, append-snoc, drop-drop, getD-drop, take-suc, length-take-le}
 use borrow.Rule.Slice.PartMut.{midOf, putMid}
-use Rattle.buffer.specs.Front.{atFront}
 use Rattle.buffer.proofs.Parts.{then-front}
-use Rattle.register.specs.declared.Register.{Register}
-use Rattle.register.specs.Layout.{wordAt, ofBytes}
 use Rattle.register.proofs.Equality.{same}
-use Rattle.job_rules.specs.Layout.{Bytes, instructionsAt, fourBytes, headerBytes, registerCount, encode, pieces}
-use Rattle.job_rules.specs.Read.{filled}
 
 pub bytes-behind : (k : ℕ) (l : List ℕ) → Bytes l → Bytes (drop k l)
 bytes-behind k l b i = rw (getD-drop k l i 0) (b (k + i))

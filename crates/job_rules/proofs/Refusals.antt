@@ -1,27 +1,15 @@
 -- The tests of reader and writer in their order, and what it says of a file that none of them refuses it. Carried by rewriting each test as it came out.
 -- Assumes nothing.
-use Prim.Native.Nat.{ℕ, _%_, _≤_, _<_}
-use mathlib.Core.Path.{_≡_, refl, sym, ap, _∙_}
-use mathlib.Core.Bool.{Bool, true, false, cond, not, _||_, true≢false}
-use mathlib.Core.List.{List}
-use native.Mathlib.Omega.{arith}
-use borrow.Author.Tests.{lt-ltb, le-ltb, eq-eqb, ne-eqb, ltb-false, eqb-true, not-false}
-use lib.Dec.{ltb, eqb}
-use lib.ListN.{length, take, drop}
-use lib.Seq.{take-at}
-use Rattle.buffer.specs.Front.{atFront}
-use Rattle.register.specs.declared.Register.{Register}
-use Rattle.register.specs.Layout.{zeroRegister, wordAt, ofBytes}
+use Rattle.job_rules.proofs.Shared.{ℕ, _%_, _≤_, _<_, _≡_, refl, sym, ap, _∙_, Bool, true, false, cond, not, _||_, true≢false, List, arith}
+use Rattle.job_rules.proofs.Shared.{lt-ltb, le-ltb, eq-eqb, ne-eqb, ltb-false, eqb-true, not-false, ltb, eqb, length, take, drop, take-at}
+use Rattle.job_rules.proofs.Shared.{atFront, Register, zeroRegister, wordAt, ofBytes, SHORT, COUNT, REGS, PLACE, WORD, ROOM, firstBad, Counts}
+use Rattle.job_rules.proofs.Shared.{Refused, ReadJob, Written, registersAt, sizeOf, encode, twoAt, wordsIn, registersOf, filled, jobOf}
+use Rattle.job_rules.proofs.Shared.{acceptedOf, refusedOf, testedOf, headerOf, numberOf, bodyOf, answerFor, readOf, writtenOf, sizeOrRefusal}
+use Rattle.job_rules.proofs.Shared.{writeOf}
 use Rattle.table.specs.declared.Count.{Count}
-use Rattle.table.specs.Refusal.{SHORT, COUNT, REGS, PLACE, LENGTH, WORD, ROOM, firstBad}
+use Rattle.table.specs.Refusal.{LENGTH}
 use Rattle.job_rules.specs.declared.Header.{Header}
-use Rattle.job_rules.specs.declared.Header.the-variants.{Counts, Refused}
 use Rattle.job_rules.specs.declared.Job.{Job}
-use Rattle.job_rules.specs.declared.ReadJob.{ReadJob}
-use Rattle.job_rules.specs.declared.Written.{Written}
-use Rattle.job_rules.specs.Layout.{registersAt, sizeOf, encode, twoAt, wordsIn, registersOf}
-use Rattle.job_rules.specs.Read.{filled, jobOf, acceptedOf, refusedOf, testedOf, headerOf, numberOf, bodyOf, answerFor, readOf}
-use Rattle.job_rules.specs.Write.{writtenOf, sizeOrRefusal, writeOf}
 use Rattle.job_rules.proofs.Pieces.{length-pieces}
 
 -- ---- the header

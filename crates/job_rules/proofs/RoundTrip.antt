@@ -1,24 +1,13 @@
 -- What the bytes of a job say when they are read, and what a file that was read is when it is written again. Carried by the laws of `Pieces` and by what
 -- the tests leave known of a file or a job that they accept.
 -- Assumes nothing.
-use Prim.Native.Nat.{ℕ, suc, _+_, _*_, _/_, _%_, _^_, _≤_}
-use mathlib.Core.Path.{_≡_, refl, sym, ap, subst, _∙_}
-use mathlib.Core.Bool.{Bool, true, false, cond}
-use mathlib.Core.List.{List, [], _∷_, _++_, flatMap, append-nil}
-use native.Mathlib.Omega.{arith}
-use borrow.Author.Tests.{le-ltb, ltb-true}
-use lib.Dec.{ltb}
-use lib.ListN.{length, getD, drop, length-drop, drop-of-length-le}
-use lib.Seq.{take-append-seam, drop-at, drop-drop}
-use Rattle.register.specs.declared.Register.{Register}
-use Rattle.register.specs.Layout.{wordAt, ofBytes, bytesOf}
+use Rattle.job_rules.proofs.Shared.{ℕ, suc, _+_, _*_, _/_, _%_, _^_, _≤_, _≡_, refl, sym, ap, subst, _∙_, Bool, true, false, cond, List, []}
+use Rattle.job_rules.proofs.Shared.{_∷_, _++_, flatMap, append-nil, arith, le-ltb, ltb-true, ltb, length, getD, drop, length-drop}
+use Rattle.job_rules.proofs.Shared.{drop-of-length-le, take-append-seam, drop-at, drop-drop, Register, wordAt, ofBytes, bytesOf, firstBad}
+use Rattle.job_rules.proofs.Shared.{ReadJob, Bytes, instructionsAt, registersAt, twoBytes, fourBytes, headerBytes, registerCount, encode}
+use Rattle.job_rules.proofs.Shared.{twoAt, wordsIn, registersOf, jobOf, acceptedOf, bodyOf, readOf, programOf, registerBytesOf}
 use Rattle.register.proofs.ByteOrder.{word-of-its-bytes, next, bytes-of-word-at}
 use Rattle.register.proofs.Theorems.{bytes-then-rest}
-use Rattle.table.specs.Refusal.{firstBad}
-use Rattle.job_rules.specs.declared.ReadJob.{ReadJob}
-use Rattle.job_rules.specs.Layout.{Bytes, instructionsAt, registersAt, twoBytes, fourBytes, headerBytes, registerCount, encode, twoAt, wordsIn, registersOf}
-use Rattle.job_rules.specs.Read.{jobOf, acceptedOf, bodyOf, readOf}
-use Rattle.job_rules.specs.Write.{programOf, registerBytesOf}
 use Rattle.job_rules.proofs.Pieces.{bytes-behind, length-pieces, pieces-size, pieces-back, four-bytes, job-size}
 use Rattle.job_rules.proofs.Refusals.{Writable, Accepts, Header-taken, header-counts, Accepted, read, jobIn}
 

@@ -1,22 +1,13 @@
 -- For the reader of specs/: a job that is written and read again is the same job, a file that is read and written again is the same file, and a file is
 -- accepted exactly when the writer gives it. All of it over what the two calls promise, `writeOf instructionsAt` and `readOf instructionsAt`.
 -- Assumes nothing.
-use Prim.Native.Nat.{ℕ, zero, suc, _-_, _≤_}
-use native.Mathlib.Nat.{le-refl, le-of-suc-le-suc, not-suc-le-zero}
-use native.Mathlib.Omega.{arith}
-use mathlib.Core.Path.{_≡_, refl, sym, ap, _∙_}
+use Rattle.job_rules.proofs.Shared.{ℕ, zero, suc, _-_, _≤_, le-refl, le-of-suc-le-suc, not-suc-le-zero, arith, _≡_, refl, sym, ap, _∙_, List}
+use Rattle.job_rules.proofs.Shared.{[], _∷_, _++_, flatMap, length, getD, take, drop, replicate, take-append-seam, atFront, firstBad, ReadJob}
+use Rattle.job_rules.proofs.Shared.{Written, Bytes, instructionsAt, LARGEST, registersAt, sizeOf, registerCount, encode, twoAt, wordsIn}
+use Rattle.job_rules.proofs.Shared.{registersOf, filled, jobOf, acceptedOf, readOf, writtenOf, sizeOrRefusal, writeOf, programOf}
+use Rattle.job_rules.proofs.Shared.{registerBytesOf}
 use mathlib.Core.Logic.{_↔_}
-use mathlib.Core.List.{List, [], _∷_, _++_, flatMap}
-use lib.ListN.{length, getD, take, drop, replicate}
-use lib.Seq.{take-append-seam}
-use Rattle.buffer.specs.Front.{atFront}
-use Rattle.table.specs.Refusal.{firstBad}
 use Rattle.table.proofs.Rows.{all-alike}
-use Rattle.job_rules.specs.declared.ReadJob.{ReadJob}
-use Rattle.job_rules.specs.declared.Written.{Written}
-use Rattle.job_rules.specs.Layout.{Bytes, instructionsAt, LARGEST, registersAt, sizeOf, registerCount, encode, twoAt, wordsIn, registersOf}
-use Rattle.job_rules.specs.Read.{filled, jobOf, acceptedOf, readOf}
-use Rattle.job_rules.specs.Write.{writtenOf, sizeOrRefusal, writeOf, programOf, registerBytesOf}
 use Rattle.job_rules.proofs.Pieces.{job-size}
 use Rattle.job_rules.proofs.Refusals.{not-written, accepts, written, accepted}
 use Rattle.job_rules.proofs.RoundTrip.{says-n, says-words, says-bytes, read-encoded, file-again, bytes-again, accepts-again}

@@ -1,20 +1,10 @@
 -- A file of more than 776 bytes is refused by what its first eight bytes say, or for its size; so any file that is so long and begins alike is refused alike.
 -- Carried by the tests in their order: no size of counts within the limits is over 776.
 -- Assumes nothing.
-use Prim.Native.Nat.{ℕ, suc, _+_, _<_}
-use native.Mathlib.Omega.{arith}
-use mathlib.Core.Path.{_≡_, refl, sym, _∙_}
-use mathlib.Core.Bool.{Bool, true, false, cond, not, _||_}
-use mathlib.Core.List.{List}
-use borrow.Author.Tests.{ltb-false, le-ltb, ne-eqb}
-use lib.Dec.{ltb, eqb}
-use lib.ListN.{length, take}
-use lib.Seq.{getD-take, length-take-le}
-use Rattle.table.specs.Refusal.{COUNT, REGS, PLACE, LENGTH}
-use Rattle.job_rules.specs.declared.Header.the-variants.{Refused}
-use Rattle.job_rules.specs.declared.ReadJob.{ReadJob}
-use Rattle.job_rules.specs.Layout.{instructionsAt, registersAt, sizeOf, LARGEST, twoAt}
-use Rattle.job_rules.specs.Read.{refusedOf, testedOf, headerOf, readOf}
+use Rattle.job_rules.proofs.Shared.{ℕ, suc, _+_, _<_, arith, _≡_, refl, sym, _∙_, Bool, true, false, cond, not, _||_, List, ltb-false, le-ltb}
+use Rattle.job_rules.proofs.Shared.{ne-eqb, ltb, eqb, length, take, getD-take, length-take-le, COUNT, REGS, PLACE, Refused, ReadJob}
+use Rattle.job_rules.proofs.Shared.{instructionsAt, registersAt, sizeOf, LARGEST, twoAt, refusedOf, testedOf, headerOf, readOf}
+use Rattle.table.specs.Refusal.{LENGTH}
 
 -- the number that counts and offsets give a file that is too long
 abbrev numberFor : ℕ → ℕ → ℕ → ℕ → ℕ

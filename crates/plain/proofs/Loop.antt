@@ -19,12 +19,12 @@ use Rattle.plain.specs.Chosen.{chosen}
 
 -- the program from i on
 module _ {A : Type 0} (read : A → Register) (make : Register → A) (none : A) where
-  pub next-word : (p : List ℕ) (i : ℕ) (f : List A) → i < length p
+  next-word : (p : List ℕ) (i : ℕ) (f : List A) → i < length p
       → plainOn read make none (drop i p) f ≡ plainOn read make none (drop (i + 1) p) (stepOn read make none (getD p i 0) f)
   unfolding plainOn
   next-word p i f h = rw (drop-cons p i 0 h, add-one)
 
-  pub no-word : (p : List ℕ) (i : ℕ) (f : List A) → length p ≤ i → plainOn read make none (drop i p) f ≡ f
+  no-word : (p : List ℕ) (i : ℕ) (f : List A) → length p ≤ i → plainOn read make none (drop i p) f ≡ f
   unfolding plainOn
   no-word p i f h = rw (drop-of-length-le p h)
 
@@ -42,21 +42,25 @@ stored-at-rd {A} w v none f = go (isNop w)
 abbrev left-by : ℕ → List (List ℕ) → ℕ → ℕ → ℕ → ℕ → List ℕ
 left-by w f a b c d = chosen (targetOf w) (rowOf (resultOf w (ofRow (getD f a [])) (ofRow (getD f b [])) (ofRow (getD f c [])))) (getD f d [])
 
+-- before the first turn nothing is done, and after the last one all of it
+pub all-words : (p : List ℕ) (i : ℕ) {f g : List (List ℕ)} → length p ≤ i → plainRows (drop i p) f ≡ g → f ≡ g
+all-words p i h e = sym (no-word ofRow rowOf [] p i _ h) ∙ e
+
 -- one turn: the places x, y, z, t that the fields of word i point to, read as a, b, c, d, and the row that is stored at d
-pub turn : (p : List ℕ) (i : ℕ) (f : List (List ℕ)) {x y z t : Pointer} {a b c d : ℕ} {row : List ℕ} → i < length p
+pub turn : (p : List ℕ) (i : ℕ) (f : List (List ℕ)) {x y z t : Pointer} {a b c d : ℕ} {row : List ℕ} {g : List (List ℕ)} → i < length p
     → x ≡ firstOf (getD p i 0) → a ≡ x .0 → y ≡ rs2Of (getD p i 0) → b ≡ y .0
     → z ≡ rs3Of (getD p i 0) → c ≡ z .0 → t ≡ rdOf (getD p i 0) → d ≡ t .0
     → row ≡ left-by (getD p i 0) f a b c d
-    → plainRows (drop (i + 1) p) (set f d row) ≡ plainRows (drop i p) f
+    → plainRows (drop i p) f ≡ g → plainRows (drop (i + 1) p) (set f d row) ≡ g
 unfolding stepOn
-turn p i f {d = d} h e1 f1 e2 f2 e3 f3 e4 f4 g =
+turn p i f {d = d} h e1 f1 e2 f2 e3 f3 e4 f4 left before =
     let w = getD p i 0 in
     let ea = f1 ∙ ap (λ (q : Pointer). q .0) e1 in
     let eb = f2 ∙ ap (λ (q : Pointer). q .0) e2 in
     let ec = f3 ∙ ap (λ (q : Pointer). q .0) e3 in
     let ed = f4 ∙ ap (λ (q : Pointer). q .0) e4 in
     ap (λ (l : List (List ℕ)). plainRows (drop (i + 1) p) l)
-    (ap (set f d) g
+    (ap (set f d) left
     ∙ (λ j. set f (ed j) (left-by w f (ea j) (eb j) (ec j) (ed j)))
     ∙ stored-at-rd w (valueOn ofRow rowOf [] w f) [] f)
-    ∙ sym (next-word ofRow rowOf [] p i f h)
+    ∙ sym (next-word ofRow rowOf [] p i f h) ∙ before

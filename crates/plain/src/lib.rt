@@ -27,6 +27,7 @@ fn answer(refusal: u32, place: usize, file: [[u32; 4]; 32]) -> Executed
     }
 }
 
+// The file of an answer.
 pub fn file_in(e: Executed) -> [[u32; 4]; 32]
     ensures { λ r. ⌜ r ≡ e .file ⌝ }
 {
@@ -78,6 +79,7 @@ fn run(program: &[u32], file: [[u32; 4]; 32]) -> [[u32; 4]; 32]
     rows
 }
 
+// Executes a program on a file, one word after another. Refused with 2 over 64 words, then with 6 at the first bad word, and then the file is as it was given.
 pub fn execute_all(program: &[u32], file: [[u32; 4]; 32]) -> Executed
     ensures { λ r. ⌜ r ≡ executeAllOf (now (program .entry)) file ⌝ }
 {
@@ -92,7 +94,7 @@ pub fn execute_all(program: &[u32], file: [[u32; 4]; 32]) -> Executed
     answer(0, 0, after)
 }
 
-// A lone word is a program of one line.
+// Executes a lone word, as a program of one line. Refused with 6.
 pub fn execute(word: u32, file: [[u32; 4]; 32]) -> Executed
     ensures { λ r. ⌜ r ≡ executeOf word file ⌝ }
 {

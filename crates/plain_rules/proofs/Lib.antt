@@ -1,2 +1,3 @@
+pub mod Boundaries
 pub mod Refusals
 pub mod Theorems

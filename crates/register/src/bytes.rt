@@ -5,6 +5,7 @@ ghost use mathlib.Core.Path.{_≡_};
 ghost use lib.ListN.{set};
 ghost use Rattle.register.specs.Layout.{wordOfBytes, wordAt};
 
+// The word of four bytes, b0 the least significant.
 pub fn word_of_bytes(b0: u8, b1: u8, b2: u8, b3: u8) -> u32
     ensures { λ r. ⌜ r ≡ wordOfBytes b0 b1 b2 b3 ⌝ }
 {

@@ -5,6 +5,7 @@ ghost use Prim.Native.Nat.{_<_};
 ghost use Rattle.register.specs.Halves.{half, join};
 ghost use Rattle.register.specs.Layout.{withHalf};
 
+// The high or the low half of a word.
 pub fn half_of_word(w: u32, high: bool) -> u16
     ensures { λ r. ⌜ r ≡ half 16 high w ⌝ }
 {
@@ -15,12 +16,14 @@ pub fn half_of_word(w: u32, high: bool) -> u16
     }
 }
 
+// The word of two halfwords.
 pub fn join_halfwords(hi: u16, lo: u16) -> u32
     ensures { λ r. ⌜ r ≡ join 16 hi lo ⌝ }
 {
     (hi as u32) * 0x1_0000 + (lo as u32)
 }
 
+// The long of two words.
 pub fn join_words(hi: u32, lo: u32) -> u64
     ensures { λ r. ⌜ r ≡ join 32 hi lo ⌝ }
 {

@@ -21,6 +21,7 @@ pub struct Register {
 }
 
 impl Register {
+    // The register of 128 zero bits.
     pub const ZERO: Register = Register {
         w0: 0,
         w1: 0,
@@ -35,6 +36,7 @@ impl Register {
         Register::ZERO
     }
 
+    // From 16 bytes, least significant first.
     pub fn from_bytes(b: [u8; 16]) -> Register
         ensures { λ r. ⌜ r ≡ ofBytes b ⌝ }
     {
@@ -46,6 +48,7 @@ impl Register {
         }
     }
 
+    // As 16 bytes, least significant first.
     pub fn to_bytes(self) -> [u8; 16]
         ensures { λ r. ⌜ r ≡ bytesOf self ⌝ }
     {
@@ -56,6 +59,7 @@ impl Register {
         with_word(twelve, 12, self.w3)
     }
 
+    // From a row of four words, word 0 first.
     pub fn from_row(row: [u32; 4]) -> Register
         ensures { λ r. ⌜ r ≡ ofRow row ⌝ }
     {
@@ -67,12 +71,14 @@ impl Register {
         }
     }
 
+    // As a row of four words, word 0 first.
     pub fn to_row(self) -> [u32; 4]
         ensures { λ r. ⌜ r ≡ rowOf self ⌝ }
     {
         [self.w0, self.w1, self.w2, self.w3]
     }
 
+    // Word i, and 0 beyond word 3.
     pub fn word(self, i: usize) -> u32
         ensures { λ r. ⌜ r ≡ lane 32 i self ⌝ }
     {
@@ -80,12 +86,14 @@ impl Register {
         if i < 4 { row[i] } else { 0 }
     }
 
+    // Halfword i, and 0 beyond halfword 7.
     pub fn halfword(self, i: usize) -> u16
         ensures { λ r. ⌜ r ≡ lane 16 i self ⌝ }
     {
         half_of_word(self.word(i / 2), i % 2 == 1)
     }
 
+    // Long i, and 0 beyond long 1.
     pub fn long(self, i: usize) -> u64
         ensures { λ r. ⌜ r ≡ lane 64 i self ⌝ }
     {
@@ -96,7 +104,7 @@ impl Register {
         }
     }
 
-    // Beyond halfword 7 there is nothing to set.
+    // With halfword i set to v; beyond halfword 7 there is nothing to set.
     pub fn with_halfword(self, i: usize, v: u16) -> Register
         ensures { λ r. ⌜ r ≡ withHalfword i v self ⌝ }
     {

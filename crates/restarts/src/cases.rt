@@ -3,7 +3,7 @@
 use crate::jobs::after_cycles;
 use crate::jobs::started;
 use crate::print::print_rows;
-use libc::STDOUT_FILENO;
+use console::output::print;
 
 const LINE_SIZE: usize = 15;
 
@@ -16,7 +16,7 @@ fn print_line(line: &[u8]) {
     if line.len() != LINE_SIZE {
         return;
     }
-    io::write_all(STDOUT_FILENO, line);
+    print(line);
     // The low four bits of an ASCII digit are its number.
     let tens = (line[10] % 16) as u32;
     let units = (line[11] % 16) as u32;

@@ -5,8 +5,15 @@ mod cases;
 mod jobs;
 mod print;
 
+use console::input::read_named;
+use console::output::say_unreadable;
+
 fn main() {
     let mut text = io::buffer();
-    let size = jobs::read_file(b"cases.txt", &mut text);
+    let came = read_named(b"cases.txt", &mut text);
+    if came.failed {
+        say_unreadable(b"cases.txt");
+    }
+    let size = came.size;
     cases::print_all(&text[..size]);
 }

@@ -1,5 +1,6 @@
 // The rows of a unit until it refuses a cycle, and its registers.
 
+use console::output::print;
 use libc::STDOUT_FILENO;
 use register::Register;
 use row::ROW_SIZE;
@@ -28,13 +29,13 @@ fn print_end(rows: u32) {
         digits::units(rows),
         b'\n',
     ];
-    io::write_all(STDOUT_FILENO, &line);
+    print(&line);
 }
 
 fn print_refused(number: u32) {
-    io::write_all(STDOUT_FILENO, b"REFUSED ");
+    print(b"REFUSED ");
     io::print_decimal(STDOUT_FILENO, number as u64);
-    io::write_all(STDOUT_FILENO, b"\n");
+    print(b"\n");
 }
 
 // A row whose end is the register's number and value.
@@ -58,7 +59,7 @@ fn print_register(number: u8, value: Register) {
     let mut line = [0u8; ROW_SIZE];
     let row = written(number, value);
     row::write_row(&mut line, 0, row);
-    io::write_all(STDOUT_FILENO, &line[REGISTER_AT..]);
+    print(&line[REGISTER_AT..]);
 }
 
 fn print_registers(registers: [Register; 32]) {
@@ -90,7 +91,7 @@ pub(crate) fn print_rows(mut u: Unit) {
         if refusal != 0 {
             break;
         }
-        io::write_all(STDOUT_FILENO, &line);
+        print(&line);
         u = cycled.unit;
         rows += 1;
     }

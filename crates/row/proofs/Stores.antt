@@ -27,10 +27,10 @@ then-stored a b p old xs n h e =
     rw (e, size, n, drop-cons old a b h, append-snoc p b (drop (suc a) old)) (set-at p (getD old a b) (drop (suc a) old) b a n)
 
 -- the part of a buffer from a on, and the buffer with what was made of that part
-abbrev part : ℕ → List ℕ → List ℕ
+abbrev pub part : ℕ → List ℕ → List ℕ
 part a x = midOf a (length x - a) x
 
-abbrev back : ℕ → List ℕ → List ℕ → List ℕ
+abbrev pub back : ℕ → List ℕ → List ℕ → List ℕ
 back a x y = putMid a (length x - a) x y
 
 -- what stands from a start on, as what stands at the front

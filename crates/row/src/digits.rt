@@ -25,12 +25,14 @@ const DIGITS: [u8; 16] = [
     b'F',
 ];
 
+// The last decimal digit but one of a number.
 pub fn tens(n: u32) -> u8
     ensures { λ r. ⌜ r ≡ digit (n / 10 % 10) ⌝ }
 {
     DIGITS[(n / 10 % 10) as usize]
 }
 
+// The last decimal digit of a number.
 pub fn units(n: u32) -> u8
     ensures { λ r. ⌜ r ≡ digit (n % 10) ⌝ }
 {

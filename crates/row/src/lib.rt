@@ -32,6 +32,7 @@ fn put_row(out: &mut [u8], row: Row)
     put_end(&mut out[34..], flags, change);
 }
 
+// Writes a row into the buffer from `start` on, its 75 bytes and no others. Refused with 9 where there are fewer, and then the buffer is as it was.
 pub fn write_row(buffer: &mut [u8], start: usize, row: Row) -> u32
     ensures { λ r. ⌜ (r, now (buffer .exit)) ≡ rowAt row start (now (buffer .entry)) ⌝ }
 {

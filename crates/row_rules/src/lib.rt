@@ -5,7 +5,9 @@ use table::Pointer;
 
 // The word in a stage.
 pub enum Stage {
+    // nothing is there: seven hyphens
     Empty,
+    // the word of the instruction that is there
     Holds(u32),
 }
 
@@ -18,10 +20,13 @@ pub struct Flags {
 
 // The register that WB writes, and its new value.
 pub enum Change {
+    // WB writes nothing: hyphens
     Nothing,
+    // the register and its new value
     To(Pointer, Register),
 }
 
+// All that a row says: the cycle's number, the words in IF, ID, EX and WB, the flags, and what WB writes.
 pub struct Row {
     pub cycle: u32,
     pub fetch: Stage,

@@ -13,15 +13,22 @@ pub struct Count(pub u8);
 
 // Which fields of a word name registers that it reads: the entries of the table's "reads" column, the multiply family's and li's.
 pub enum Reads {
+    // none: NOP
     Nothing,
+    // rs1 alone
     Rs1,
+    // rs1 and rs2
     Rs1Rs2,
+    // all three: the multiply family
     Rs1Rs2Rs3,
+    // rd, the old value of li
     Rd,
 }
 
 // The register that a word writes, or none.
 pub enum Target {
+    // a NOP writes nothing
     None,
+    // rd of any other word
     To(Pointer),
 }

@@ -37,6 +37,7 @@ fn short_reads(code: usize) -> Reads
     READS[code]
 }
 
+// What a word reads.
 pub fn reads(w: u32) -> Reads
     ensures { λ r. ⌜ r ≡ readsOf (operationOf w) ⌝ }
 {

@@ -23,7 +23,7 @@ pub const ROOM: u32 = 9;
 
 pub const STATE: u32 = 10;
 
-// The number of words where there is no bad one.
+// The place of the first word of 2^25 or more, or the number of words where there is none.
 pub fn first_bad(words: &[u32]) -> usize
     ensures { λ r. ⌜ r ≡ firstBad (now (words .entry)) ⌝ }
 {

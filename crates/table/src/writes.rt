@@ -20,6 +20,7 @@ fn is_nop(w: u32) -> bool
     code(w) == 0
 }
 
+// What a word writes.
 pub fn target_of(w: u32) -> Target
     ensures { λ r. ⌜ r ≡ targetOf w ⌝ }
 {

@@ -1,22 +1,12 @@
 -- What a cycle with a row answers, from what the cycle and the writer of the row give. Carried by rewriting each test as it came out.
 -- Assumes nothing.
-use Prim.Native.Nat.{ℕ, _+_}
-use mathlib.Core.Path.{_≡_, refl, sym, ap, _∙_}
-use mathlib.Core.Bool.{Bool, true, false}
-use mathlib.Core.List.{List}
-use native.Mathlib.Omega.{arith}
-use lib.Dec.{ltb}
-use lib.ListN.{length}
-use Rattle.table.specs.Refusal.{ROOM}
+use Rattle.unit_rules.proofs.Shared.{ℕ, _+_, _≡_, refl, sym, ap, _∙_, Bool, true, false, List, arith, ltb, length, ROOM, cycleOf, drainedOf}
+use Rattle.unit_rules.proofs.Shared.{wellMadeOf, cycledOf, inFlightOf}
 use Rattle.row_rules.specs.declared.Row.{Row}
 use Rattle.row_rules.specs.Text.{rowSize, rowAt}
 use Rattle.unit_rules.specs.declared.Unit.{Unit}
 use Rattle.unit_rules.specs.declared.Cycled.{Cycled}
-use Rattle.unit_rules.specs.Cycle.{cycleOf}
-use Rattle.unit_rules.specs.Record.{drainedOf, wellMadeOf}
-use Rattle.unit_rules.specs.Calls.{cycledOf}
 use Rattle.unit_rules.specs.declared.InFlight.{InFlight}
-use Rattle.unit_rules.specs.Stages.{inFlightOf}
 use Rattle.trace_rules.proofs.Going.{Going, goes}
 use Rattle.trace_rules.specs.RowOfCycle.{shownBy, shownOf}
 use Rattle.trace_rules.specs.Call.{tracedOf}

@@ -1,12 +1,7 @@
 -- When a cycle is made: the record is well made and the unit not drained. Carried by the two tests of a cycle.
 -- Assumes nothing.
-use mathlib.Core.Path.{_≡_, refl}
-use mathlib.Core.Bool.{Bool, true, false}
-use native.Mathlib.Omega.{arith}
+use Rattle.unit_rules.proofs.Shared.{_≡_, refl, Bool, true, false, arith, cycleOf, drainedOf, wellMadeOf, cycledOf}
 use Rattle.unit_rules.specs.declared.Unit.{Unit}
-use Rattle.unit_rules.specs.Cycle.{cycleOf}
-use Rattle.unit_rules.specs.Record.{drainedOf, wellMadeOf}
-use Rattle.unit_rules.specs.Calls.{cycledOf}
 
 -- a unit that makes a cycle when it is asked
 pub record Going (u : Unit) : Type 0 where

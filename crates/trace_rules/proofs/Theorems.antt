@@ -1,24 +1,11 @@
--- For the reader of specs/: what a row says is what happened. Carried by where the latches are (`Control` of crate `model`) and by the cases of a latch.
+-- For the reader of specs/: what a row says is what happened. Carried by where the latches are (`Positions` of `unit_rules`) and by the cases of a latch.
 -- Assumes nothing.
-use Prim.Native.Nat.{ℕ, suc, _+_, _-_, _<_, _≤_}
-use mathlib.Core.Path.{_≡_, refl, sym, ap, subst, _∙_}
-use mathlib.Core.Logic.{_⊎_, ⊎-elim}
-use mathlib.Core.Bool.{Bool, true, false, cond, _&&_, and-false}
-use mathlib.Core.List.{List}
-use native.Mathlib.Omega.{arith}
-use borrow.Author.Tests.{leb-false, lt-leb}
-use lib.Dec.{ltb, leb}
-use lib.ListN.{length, getD, take}
-use Rattle.register.specs.declared.Register.{Register}
-use Rattle.table.specs.declared.Pointer.{Pointer}
-use Rattle.table.specs.declared.Target.{Target}
-use Rattle.table.specs.declared.Target.the-variants.{None, To as ToRegister}
-use Rattle.table.specs.Fields.{isLi, rdOf, firstOf, rs2Of, rs3Of}
-use Rattle.table.specs.Operation.{Operation, operationOf, readsOf, takesSecond, takesThird, isNop, targetOf}
-use Rattle.plain_rules.specs.Machine.{stored, plain}
-use Rattle.job_rules.specs.Layout.{instructionsAt}
-use Rattle.job_rules.specs.Read.{readOf}
-use Rattle.job_rules.specs.Write.{programOf}
+use Rattle.unit_rules.proofs.Shared.{ℕ, suc, _+_, _-_, _<_, _≤_, _≡_, refl, sym, ap, subst, _∙_, _⊎_, ⊎-elim, Bool, true, false, cond, _&&_}
+use Rattle.unit_rules.proofs.Shared.{and-false, List, arith, leb-false, lt-leb, ltb, leb, length, getD, take, Register, Pointer, Target, None, isLi}
+use Rattle.unit_rules.proofs.Shared.{rdOf, firstOf, rs2Of, rs3Of, Operation, operationOf, readsOf, takesSecond, takesThird, isNop, targetOf, stored}
+use Rattle.unit_rules.proofs.Shared.{plain, instructionsAt, readOf, programOf, instructionOf, isTarget, afterWB, afterIF, cycleOf, inDecoded}
+use Rattle.unit_rules.proofs.Shared.{inExecuted, lastOf, heldOf, drainedOf, wellMadeOf, registersSet, startOf, cycledOf, Whole, afterCalls}
+use Rattle.table.specs.declared.Target.the-variants.{To as ToRegister}
 use Rattle.row_rules.specs.declared.Stage.{Stage}
 use Rattle.row_rules.specs.declared.Stage.the-variants as In
 use Rattle.row_rules.specs.declared.Change.{Change}
@@ -33,10 +20,6 @@ use Rattle.unit_rules.specs.declared.ExWb.{ExWb}
 use Rattle.unit_rules.specs.declared.ExWb.the-variants as EX/WB
 use Rattle.unit_rules.specs.declared.Unit.{Unit}
 use Rattle.unit_rules.specs.declared.Cycled.{Cycled}
-use Rattle.unit_rules.specs.Cycle.{instructionOf, isTarget, afterWB, afterIF, cycleOf}
-use Rattle.unit_rules.specs.Record.{inDecoded, inExecuted, lastOf, heldOf, drainedOf, wellMadeOf}
-use Rattle.unit_rules.specs.Calls.{registersSet, startOf, cycledOf}
-use Rattle.unit_rules.specs.Sequence.{Whole, afterCalls}
 use Rattle.unit_rules.proofs.Positions.{placed-cycle, held-later, drained-is}
 use Rattle.unit_rules.proofs.WellMade.{well-made-says, last-small}
 use Rattle.unit_rules.proofs.Demand3.{demand3-registers, demand3-cycle-answers}

@@ -1,3 +1,4 @@
 pub mod RowOfCycle
 pub mod Call
 pub mod Happened
+pub mod JobText

@@ -1,10 +1,10 @@
-// A job's whole text, as the program `trace` prints it, in a lent buffer.
+// A job's whole text, as the program `trace` prints it: by value, or in a lent buffer.
 
 ghost use mathlib.Core.Path.{_≡_};
 ghost use mathlib.Core.Bool.{true};
 ghost use Rattle.table.specs.Refusal.{ROOM};
 ghost use Rattle.unit_rules.specs.Record.{wellMadeOf};
-ghost use Rattle.trace_text.specs.Text.{refusedText, traceText, putOf, writeTextOf};
+ghost use Rattle.trace_rules.specs.JobText.{refusedText, traceText, putOf, writeTextOf, wholeTextOf, bytesToRead};
 
 mod lines;
 mod rows;
@@ -16,16 +16,23 @@ use crate::rows::put_rows;
 use buffer::has_room;
 use row::ROW_SIZE;
 use table::refusal;
+use trace_rules::LARGEST_TEXT;
+use trace_rules::TextAnswer;
+use trace_rules::WholeText;
 use unit_record::numbers::last;
 use unit_rules::Unit;
 
 // The bytes of a line of END.
 const END_SIZE: usize = 7;
 
-// How a text was put: 0 and its size, or the number that it is refused with.
-pub struct TextAnswer {
-    pub refusal: u32,
-    pub size: usize,
+// So many bytes of a file decide its text: a program need not read more of any input.
+pub const BYTES_TO_READ: usize = 777;
+
+// The constant, by a contract.
+pub fn bytes_to_read() -> usize
+    ensures { λ r. ⌜ r ≡ bytesToRead ⌝ }
+{
+    BYTES_TO_READ
 }
 
 fn no_room() -> TextAnswer
@@ -66,6 +73,8 @@ fn trace(out: &mut [u8], u: Unit) -> TextAnswer
     no_room()
 }
 
+// Writes the whole text of a job file at the front of the buffer: its rows and END, or REFUSED. Refused with 9 where the text does not fit, and then the buffer
+// is as it was.
 pub fn write_text(file: &[u8], out: &mut [u8]) -> TextAnswer
     ensures { λ r. ⌜ (r, now (out .exit)) ≡ writeTextOf (now (file .entry)) (now (out .entry)) ⌝ }
 {
@@ -77,4 +86,16 @@ pub fn write_text(file: &[u8], out: &mut [u8]) -> TextAnswer
     }
     let u = started.unit;
     trace(out, u)
+}
+
+// The whole text of a job file by value: there is room for every text.
+pub fn whole_text(file: &[u8]) -> WholeText
+    ensures { λ r. ⌜ r ≡ wholeTextOf (now (file .entry)) ⌝ }
+{
+    let mut bytes = [0u8; LARGEST_TEXT];
+    let answer = write_text(file, &mut bytes);
+    WholeText {
+        bytes,
+        size: answer.size,
+    }
 }

@@ -6,7 +6,7 @@ ghost use mathlib.Core.List.{[], _∷_, _++_};
 ghost use lib.ListN.{length};
 ghost use Rattle.buffer.specs.Front.{atFront};
 ghost use Rattle.row_rules.specs.Text.{digit, twoDigits, newline};
-ghost use Rattle.trace_text.specs.Text.{endText, refusedText};
+ghost use Rattle.trace_rules.specs.JobText.{endText, refusedText};
 use row::digits;
 
 fn put_one_digit(out: &mut [u8], n: u32)

@@ -7,7 +7,7 @@ ghost use lib.ListN.{length};
 ghost use Rattle.buffer.specs.Front.{atFront};
 ghost use Rattle.row_rules.specs.Text.{rowSize};
 ghost use Rattle.unit_rules.specs.Record.{lastOf, wellMadeOf};
-ghost use Rattle.trace_text.specs.Text.{rowsOf};
+ghost use Rattle.trace_rules.specs.JobText.{rowsOf};
 use row::ROW_SIZE;
 use row::write_row;
 use trace_row::shown::row_of_cycle;

@@ -1,38 +1,21 @@
 -- The loop over cycles: its locals, put together, are the unit after so many cycles. Carried by the laws of the stages, a turn at a time; the indices are in range
 -- because a well-made unit's latches hold instructions of its program.
 -- Assumes nothing.
-use Prim.Native.Nat.{ℕ, _+_, _-_, _%_, _≤_, _<_}
-use mathlib.Core.Path.{_≡_, refl, sym, ap, subst, _∙_}
-use mathlib.Core.Bool.{Bool, true, false, cond}
-use mathlib.Core.List.{List}
-use native.Mathlib.Nat.{add-assoc, add-zero}
-use native.Mathlib.Numerals.{add-one}
-use native.Mathlib.Omega.{arith}
-use lib.Dec.{ltb, leb}
-use lib.ListN.{getD, set}
-use Rattle.register.specs.declared.Register.{Register}
-use Rattle.register.specs.Layout.{zeroRegister}
-use Rattle.table.specs.declared.Target.{Target}
-use Rattle.table.specs.declared.Target.the-variants.{None, To}
-use Rattle.table.specs.Fields.{isLi, rdOf, rs1Of, firstOf}
-use Rattle.table.specs.Operation.{isNop, targetOf}
+use Rattle.unit_rules.proofs.Shared.{ℕ, _+_, _-_, _%_, _≤_, _<_, _≡_, refl, sym, ap, subst, _∙_, Bool, true, false, cond, List, add-assoc, add-zero}
+use Rattle.unit_rules.proofs.Shared.{add-one, arith, ltb, leb, getD, set, Register, zeroRegister, Target, None, To, isLi, rdOf, rs1Of, firstOf, isNop}
+use Rattle.unit_rules.proofs.Shared.{targetOf, instructionOf, afterWB, afterID, afterIF, cycleOf, cyclesOf, inExecuted, heldOf, wellMadeOf, writeTo}
+use Rattle.unit_rules.proofs.Shared.{writeOf, sourcesOf, readAt, decodedWith, inFlightOf, unitWith, advancedOf}
 use Rattle.unit_rules.specs.declared.IfId.{IfId}
 use Rattle.unit_rules.specs.declared.IfId.the-variants as IF/ID
 use Rattle.unit_rules.specs.declared.ExWb.{ExWb}
 use Rattle.unit_rules.specs.declared.ExWb.the-variants as EX/WB
 use Rattle.unit_rules.specs.declared.Unit.{Unit}
-use Rattle.unit_rules.specs.Cycle.{instructionOf, afterWB, afterID, afterIF, cycleOf, cyclesOf}
-use Rattle.unit_rules.specs.Record.{inExecuted, heldOf, wellMadeOf}
 use Rattle.unit_rules.proofs.Positions.{Placed, placed-cycles}
 use Rattle.unit_rules.proofs.WellMade.{well-made-says}
 use Rattle.unit_rules.specs.declared.Write.{Write}
-use Rattle.unit_rules.specs.Stages.{writeTo, writeOf}
-use Rattle.unit_rules.proofs.OneCycle.{write-back}
-use Rattle.unit_rules.proofs.OneCycle.{deliver}
 use Rattle.unit_rules.specs.declared.InFlight.{InFlight}
 use Rattle.unit_rules.specs.declared.Sources.{Sources}
-use Rattle.unit_rules.specs.Stages.{sourcesOf, readAt, decodedWith, inFlightOf, unitWith, advancedOf}
-use Rattle.unit_rules.proofs.OneCycle.{execute, decode}
+use Rattle.unit_rules.proofs.OneCycle.{write-back, deliver, execute, decode}
 
 -- a turn: what the stages are called for, one after another
 pub turn : (u : Unit) {g : List Register} {l : InFlight} {w : Write} {v : Sources}
@@ -60,6 +43,11 @@ pub more : (i : ℕ) (u : Unit) {f g : List Register} {k l : InFlight} → unitW
 unfolding cyclesOf
 more i u {g = g} {l = l} h e =
     rw (sym (add-assoc (u .cycle) i 1)) e ∙ ap cycleOf h ∙ rw (add-one i)
+
+-- after the last turn
+pub all-made : (u : Unit) {i m : ℕ} {f : List Register} {l : InFlight} {v : Unit} → unitWith u i f l ≡ cyclesOf i u
+    → i ≤ m → m ≤ i → v ≡ unitWith u m f l → v ≡ cyclesOf m u
+all-made u {i = i} {m = m} h few all e = let last : i ≡ m = omega arith in e ∙ rw last at h
 
 -- ---- every pointer of an instruction of a program is a register
 
@@ -113,10 +101,18 @@ module _ (u : Unit) (made : wellMadeOf u ≡ true) (c : ℕ) {f : List Register}
   placed : Placed (unitWith u c f l)
   placed = subst Placed (sym e) (placed-cycles c u (well-made-says u made .placed))
 
-  pub read-in-range : {v : Sources} → v ≡ sourcesOf (l .fetched) → (v .first .0 < 32) × (v .second .0 < 32) × (v .third .0 < 32)
-  read-in-range h =
-      let s = subst Small (sym (placed .in-IF/ID)) (small-held (u .program) (u .n .0) 1 (u .cycle + c)) in
-      rw h (s .first, s .second, s .third)
+  read : Small (l .fetched)
+  read = subst Small (sym (placed .in-IF/ID)) (small-held (u .program) (u .n .0) 1 (u .cycle + c))
+
+  module _ {v : Sources} (from : v ≡ sourcesOf (l .fetched)) where
+    pub first-in-range : v .first .0 < 32
+    first-in-range = rw from (read .first)
+
+    pub second-in-range : v .second .0 < 32
+    second-in-range = rw from (read .second)
+
+    pub third-in-range : v .third .0 < 32
+    third-in-range = rw from (read .third)
 
   pub write-in-range : {w : Write} → w ≡ writeOf (l .executed) → w .at .0 < 32
   write-in-range h =

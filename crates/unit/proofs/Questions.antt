@@ -1,14 +1,9 @@
 -- What each call that asks answers, from what its parts give. Carried by rewriting each test as it came out.
 -- Assumes nothing.
-use Prim.Native.Nat.{ℕ, _≤_, _<_}
-use mathlib.Core.Path.{_≡_, sym, _∙_}
-use mathlib.Core.Bool.{Bool, true, false}
-use lib.ListN.{getD}
-use Rattle.register.specs.Layout.{zeroRegister}
-use Rattle.table.specs.Refusal.{POINTER, STATE}
+use Rattle.unit_rules.proofs.Shared.{ℕ, _≤_, _<_, _≡_, sym, _∙_, Bool, true, false, getD, zeroRegister, STATE, drainedOf, wellMadeOf, registerOf}
+use Rattle.unit_rules.proofs.Shared.{askedDrained}
+use Rattle.table.specs.Refusal.{POINTER}
 use Rattle.unit_rules.specs.declared.Unit.{Unit}
-use Rattle.unit_rules.specs.Record.{drainedOf, wellMadeOf}
-use Rattle.unit_rules.specs.Calls.{registerOf, askedDrained}
 use Rattle.unit_rules.proofs.Theorems.{ill-made-refused, register-over-31, register-to-31}
 
 module _ (u : Unit) {t : Bool} (test : t ≡ wellMadeOf u) where

@@ -1,19 +1,10 @@
 -- What a start answers, from what the reader gives. Carried by rewriting the test as it came out.
 -- Assumes nothing.
-use Prim.Native.Nat.{ℕ, _+_, _≤_}
-use mathlib.Core.Path.{_≡_, sym, ap, _∙_}
-use mathlib.Core.List.{List}
-use native.Mathlib.Numerals.{add-one}
-use borrow.Author.Tests.{eq-eqb, ne-eqb}
-use lib.ListN.{getD, set}
-use Rattle.register.specs.declared.Register.{Register}
-use Rattle.register.specs.Layout.{zeroRegister}
-use Rattle.job_rules.specs.declared.ReadJob.{ReadJob}
-use Rattle.job_rules.specs.Layout.{instructionsAt}
-use Rattle.job_rules.specs.Read.{readOf}
+use Rattle.unit_rules.proofs.Shared.{ℕ, _+_, _≤_, _≡_, sym, ap, _∙_, List, add-one, eq-eqb, ne-eqb, getD, set, Register, zeroRegister, ReadJob}
+use Rattle.unit_rules.proofs.Shared.{instructionsAt, readOf, begunOf, registersSet, startOf}
+use Rattle.buffer.proofs.Parts.{at-end}
 use Rattle.unit_rules.specs.declared.Unit.{Unit}
 use Rattle.unit_rules.specs.declared.Started.{Started}
-use Rattle.unit_rules.specs.Calls.{begunOf, registersSet, startOf}
 use Rattle.unit_rules.proofs.Calls.{sound-read}
 
 module _ (file : List ℕ) (u : Unit) {read : ReadJob} (reads : read ≡ readOf instructionsAt file) where
@@ -34,3 +25,6 @@ module _ (file : List ℕ) (u : Unit) {read : ReadJob} (reads : read ≡ readOf 
 
 pub next-set : (file old : List Register) (i : ℕ) {f : List Register} → f ≡ registersSet i file old → set f i (getD file i zeroRegister) ≡ registersSet (i + 1) file old
 next-set file old i e = rw (e, add-one i)
+
+pub all-set : (file old : List Register) {i r : ℕ} {f : List Register} → i ≤ r → r ≤ i → f ≡ registersSet i file old → f ≡ registersSet r file old
+all-set file old few all e = at-end (λ k. registersSet k file old) _ _ few all e

@@ -1,13 +1,9 @@
-pub mod Alone
-pub mod AnswerStructs
-pub mod AskedAlone
-pub mod AskedOneMore
 pub mod Beside
 pub mod Buffered
-pub mod Cores
 pub mod Handed
-pub mod OneMore
-pub mod Theorems
 pub mod Steps
+pub mod Theorems
 pub mod Thin
 pub mod Unique
+pub mod Walking
+pub mod Walks

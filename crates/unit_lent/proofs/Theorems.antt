@@ -1,11 +1,7 @@
 -- For the reader of the contracts: after a refusal the unit and the buffer are what they were. Every contract speaks of the unit at entry alone, so the next call
 -- answers as if the refused one had not been made, and a run in progress goes on as before. The two calls that ask take the unit by `&`, and change nothing.
 -- Assumes nothing.
-use mathlib.Core.Path.{_∙_, _≡_, ap}
-use contract.Lifetimes.{Lfts}
-use denote.Ref.{now}
-use denote.Triple.Clauses.{AtExit}
-use denote.Triple.Entry.{Args, Res}
+use Rattle.unit_lent.proofs.Walking.{Args, AtExit, Lfts, Res, _∙_, _≡_, ap, now}
 use Rattle.unit_rules.specs.Calls.{startOf}
 use Rattle.unit_rules.proofs.Demand3.{demand3-start-refused}
 use Rattle.unit_rules.proofs.Theorems as model

@@ -20,6 +20,7 @@ pub struct RunAnswer {
     pub made: u32,
 }
 
+// Starts the job of a file on the unit: 0, or 1 to 6, the first that holds, and with 6 the place of the first bad word.
 pub fn start(u: &mut Unit, file: &[u8]) -> StartAnswer
     ensures { λ r. ⌜ startedWith r (now (u .exit)) ≡ startOf (now (file .entry)) (now (u .entry)) ⌝ }
 {
@@ -31,6 +32,7 @@ pub fn start(u: &mut Unit, file: &[u8]) -> StartAnswer
     }
 }
 
+// Makes one cycle: 0, 10 where the record is not well made, or 8 where the unit is drained.
 pub fn cycle(u: &mut Unit) -> u32
     ensures { λ r. ⌜ cycledWith r (now (u .exit)) ≡ cycledOf (now (u .entry)) ⌝ }
 {
@@ -39,6 +41,7 @@ pub fn cycle(u: &mut Unit) -> u32
     s.refusal
 }
 
+// Makes one cycle and writes its row into the buffer from `start` on: 0, or 10, 8 or 9, and then the buffer is as it was too.
 pub fn cycle_with_row(u: &mut Unit, buffer: &mut [u8], start: usize) -> u32
     ensures { λ r. ⌜ (cycledWith r (now (u .exit)), now (buffer .exit)) ≡ tracedOf (now (u .entry)) start (now (buffer .entry)) ⌝ }
 {
@@ -47,6 +50,7 @@ pub fn cycle_with_row(u: &mut Unit, buffer: &mut [u8], start: usize) -> u32
     s.refusal
 }
 
+// Makes as many cycles as the budget allows and the unit has left: 0 and how many, or 10.
 pub fn run(u: &mut Unit, budget: u32) -> RunAnswer
     ensures { λ r. ⌜ ranWith r (now (u .exit)) ≡ ranOf (now (u .entry)) budget ⌝ }
 {
@@ -58,12 +62,14 @@ pub fn run(u: &mut Unit, budget: u32) -> RunAnswer
     }
 }
 
+// The register of that number as it stands: 0 and the register, 10, or 7 over 31.
 pub fn register_of(u: &Unit, number: usize) -> RegisterAnswer
     ensures { λ r. ⌜ r ≡ registerOf (now (u .entry)) number ⌝ }
 {
     unit::register_of(*u, number)
 }
 
+// Whether all of the job is done: 0 and the answer, or 10.
 pub fn drained(u: &Unit) -> Drained
     ensures { λ r. ⌜ r ≡ askedDrained (now (u .entry)) ⌝ }
 {

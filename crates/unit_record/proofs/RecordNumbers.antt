@@ -1,14 +1,6 @@
 -- The tests of a record's numbers in their order, each as it came out. Carried by rewriting with each test.
 -- Assumes nothing.
-use Prim.Native.Nat.{ℕ, _<_, _≤_, min}
-use mathlib.Core.Path.{_≡_}
-use mathlib.Core.Bool.{false}
-use mathlib.Core.List.{List}
-use borrow.Author.Tests.{le-leb, lt-leb}
-use lib.Dec.{eqb}
-use lib.ListN.{take}
-use Rattle.table.specs.Refusal.{firstBad}
-use Rattle.unit_rules.specs.Record.{lastOf, numbersMade}
+use Rattle.unit_rules.proofs.Shared.{ℕ, _<_, _≤_, min, _≡_, false, List, le-leb, lt-leb, eqb, take, firstBad, lastOf, numbersMade}
 
 module _ (program : List ℕ) (n count c : ℕ) where
   pub too-many-lines : 64 < n → false ≡ numbersMade program n count c

@@ -1,19 +1,12 @@
 -- The tests of a record in their order, each as it came out. Carried by rewriting with each test.
 -- Assumes nothing.
-use Prim.Native.Nat.{ℕ, _-_, _<_, _≤_}
-use mathlib.Core.Path.{_≡_, refl, sym, ap, _∙_}
-use mathlib.Core.Bool.{Bool, true, false, _&&_, false≢true}
-use mathlib.Core.List.{List, map, map-id}
-use native.Mathlib.Omega.{arith}
-use borrow.Author.Tests.{lt-ltb, le-ltb, le-leb, lt-leb, leb-true, leb-false}
-use lib.Dec.{leb}
-use lib.ListN.{length, getD}
+use Rattle.unit_rules.proofs.Shared.{ℕ, _-_, _<_, _≤_, _≡_, refl, sym, ap, _∙_, Bool, true, false, _&&_, false≢true, List, map, map-id, arith, lt-ltb}
+use Rattle.unit_rules.proofs.Shared.{le-ltb, le-leb, lt-leb, leb-true, leb-false, leb, length, getD, instructionOf, inDecoded, inExecuted, isEmpty}
+use Rattle.unit_rules.proofs.Shared.{drainedOf, heldOf, sameHeld, numbersMade, wellMadeOf}
 use Rattle.unit_rules.specs.declared.Instruction.{Instruction}
 use Rattle.unit_rules.specs.declared.IfId.{IfId}
 use Rattle.unit_rules.specs.declared.IfId.the-variants as IF/ID
 use Rattle.unit_rules.specs.declared.Unit.{Unit}
-use Rattle.unit_rules.specs.Cycle.{instructionOf}
-use Rattle.unit_rules.specs.Record.{inDecoded, inExecuted, isEmpty, drainedOf, heldOf, sameHeld, numbersMade, wellMadeOf}
 use Rattle.unit_record.proofs.RecordNumbers.{too-many-lines}
 
 -- a number up to the size of an array that is a field

@@ -1,41 +1,22 @@
 -- The unit as a pipeline, and what its registers are after each cycle from a go. Carried by `result-gated`: an operand that the table says is not read has no
 -- effect, so it does not matter that nothing is forwarded to it.
 -- Assumes nothing.
-use Prim.Native.Nat.{ℕ, zero, suc, _-_, _≤_, _<_, min}
-use mathlib.Core.Path.{_≡_, refl, sym, ap, _∙_}
-use mathlib.Core.Bool.{Bool, true, false, cond, _&&_}
-use mathlib.Core.List.{List, [], _∷_}
-use native.Mathlib.Numerals.{add-one}
-use native.Mathlib.Omega.{arith}
-use borrow.Author.Tests.{eqb-true, eqb-false, ltb-true, ltb-false}
-use lib.Dec.{eqb, ltb}
-use lib.ListN.{getD, set, take, length, length-set}
-use lib.Seq.{getD-set-same, getD-set-other, getD-take, take-suc, take-all, length-take-le}
-use Rattle.register.specs.declared.Register.{Register}
-use Rattle.register.specs.Layout.{zeroRegister}
-use Rattle.table.specs.declared.Pointer.{Pointer}
-use Rattle.table.specs.declared.Target.{Target}
-use Rattle.table.specs.declared.Target.the-variants.{None, To}
-use Rattle.table.specs.Fields.{firstOf, rs2Of, rs3Of, rdOf}
-use Rattle.table.specs.Operation.{operationOf, readsOf, takesFirst, takesSecond, takesThird, isNop, targetOf}
+use Rattle.unit_rules.proofs.Shared.{ℕ, zero, suc, _-_, _≤_, _<_, min, _≡_, refl, sym, ap, _∙_, Bool, true, false, cond, _&&_, List, [], _∷_}
+use Rattle.unit_rules.proofs.Shared.{add-one, arith, eqb-true, eqb-false, ltb-true, ltb-false, eqb, ltb, getD, set, take, length, length-set}
+use Rattle.unit_rules.proofs.Shared.{getD-set-same, getD-set-other, getD-take, take-suc, take-all, length-take-le, Register, zeroRegister}
+use Rattle.unit_rules.proofs.Shared.{Pointer, Target, None, To, firstOf, rs2Of, rs3Of, rdOf, operationOf, readsOf, takesFirst, takesSecond}
+use Rattle.unit_rules.proofs.Shared.{takesThird, isNop, targetOf, stored, stepOn, plainOn, step, plain, one-after-another, lone-word, IfId}
+use Rattle.unit_rules.proofs.Shared.{IdEx, ExWb, Unit, instructionOf, afterWB, isTarget, newestOperands, operandsIn, afterEX, afterID, afterIF}
+use Rattle.unit_rules.proofs.Shared.{cycleOf, cyclesOf, goneOf, Whole}
+use Rattle.unit_rules.proofs.Shared.IF/ID
+use Rattle.unit_rules.proofs.Shared.ID/EX
+use Rattle.unit_rules.proofs.Shared.EX/WB
 use Rattle.alu_rules.specs.Result.{resultOf}
 use Rattle.alu_rules.proofs.Rows.{gate, result-gated}
-use Rattle.plain_rules.specs.Machine.{stored, stepOn, plainOn, step, plain}
-use Rattle.plain_rules.proofs.Theorems.{one-after-another, lone-word}
 use Rattle.pipeline.proofs.Stages.{Slot, Stages, Latched, Pipe, Lawful, throughWB, throughEX, throughID, executed, executedAll, late, late-by-three, pipeAt, next-cycle}
 use Rattle.pipeline.proofs.Stages.Slot.{empty, holds}
 use Rattle.unit_rules.specs.declared.Operands.{Operands}
 use Rattle.unit_rules.specs.declared.Outcome.{Outcome}
-use Rattle.unit_rules.specs.declared.IfId.{IfId}
-use Rattle.unit_rules.specs.declared.IfId.the-variants as IF/ID
-use Rattle.unit_rules.specs.declared.IdEx.{IdEx}
-use Rattle.unit_rules.specs.declared.IdEx.the-variants as ID/EX
-use Rattle.unit_rules.specs.declared.ExWb.{ExWb}
-use Rattle.unit_rules.specs.declared.ExWb.the-variants as EX/WB
-use Rattle.unit_rules.specs.declared.Unit.{Unit}
-use Rattle.unit_rules.specs.Cycle.{instructionOf, afterWB, isTarget, newestOperands, operandsIn, afterEX, afterID, afterIF, cycleOf, cyclesOf}
-use Rattle.unit_rules.specs.Calls.{goneOf}
-use Rattle.unit_rules.specs.Sequence.{Whole}
 use Rattle.unit_rules.proofs.Positions.{fetch-min, next-min}
 
 -- ---- the unit's stages, on the words of instructions

@@ -1,6 +1,5 @@
 -- A well-made record's numbers and a register's number at their boundaries: what is just taken, and what is just not. Carried by computing the tests.
 -- Assumes nothing.
-use Prim.Native.Nat.{ℕ}
 use mathlib.Core.Path.{_≡_, refl}
 use mathlib.Core.Bool.{true, false}
 use mathlib.Core.List.{[], _∷_}

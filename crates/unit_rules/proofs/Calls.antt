@@ -1,34 +1,15 @@
 -- What is known of a unit once a start has accepted a file: its record is well made, its file of registers is whole, and the calls of `cycle` that follow are
 -- cycles. Carried by what the reader's tests leave known of an accepted file.
 -- Assumes nothing.
-use Prim.Native.Nat.{ℕ, zero, suc, _+_, _-_, _≤_, _<_, min}
-use mathlib.Core.Path.{_≡_, refl, sym, ap, subst, _∙_}
-use mathlib.Core.Bool.{Bool, true, false, cond}
-use mathlib.Core.List.{List, [], _∷_}
-use native.Mathlib.Nat.{add-zero}
-use native.Mathlib.Omega.{arith}
-use borrow.Author.Tests.{eq-eqb, ne-eqb, eqb-true, eqb-false, lt-leb, le-leb, leb-true, leb-false}
-use lib.Dec.{eqb, leb}
-use lib.ListN.{getD, set, take, drop, length, length-set, length-append, length-replicate}
-use lib.Seq.{take-append-seam, getD-set-same, getD-set-other}
-use Rattle.register.specs.declared.Register.{Register}
-use Rattle.register.specs.Layout.{zeroRegister, wordAt, ofBytes}
-use Rattle.table.specs.Refusal.{DRAINED, firstBad}
-use Rattle.plain_rules.specs.Machine.{plain}
-use Rattle.job_rules.specs.declared.Job.{Job}
-use Rattle.job_rules.specs.declared.ReadJob.{ReadJob}
-use Rattle.job_rules.specs.Layout.{instructionsAt, twoAt, registersAt, wordsIn, registersOf}
-use Rattle.job_rules.specs.Read.{filled, jobOf, readOf}
-use Rattle.job_rules.specs.Write.{programOf}
+use Rattle.unit_rules.proofs.Shared.{ℕ, zero, suc, _+_, _-_, _≤_, _<_, min, _≡_, refl, sym, ap, subst, _∙_, Bool, true, false, cond, List, []}
+use Rattle.unit_rules.proofs.Shared.{_∷_, add-zero, arith, eq-eqb, ne-eqb, eqb-true, eqb-false, lt-leb, le-leb, leb-true, leb-false, eqb, leb}
+use Rattle.unit_rules.proofs.Shared.{getD, set, take, drop, length, length-set, length-append, length-replicate, take-append-seam}
+use Rattle.unit_rules.proofs.Shared.{getD-set-same, getD-set-other, Register, zeroRegister, wordAt, ofBytes, DRAINED, firstBad, plain, Job}
+use Rattle.unit_rules.proofs.Shared.{ReadJob, instructionsAt, twoAt, registersAt, wordsIn, registersOf, filled, jobOf, readOf, programOf, Unit}
+use Rattle.unit_rules.proofs.Shared.{Cycled, Ran, cyclesOf, lastOf, goneOf, registersSet, loadedOf, startOf, cycledOf, ranOf, Whole}
+use Rattle.unit_rules.proofs.Shared.{afterCalls, Call, unitAfter, cyclesIn, unitAfterAll, cyclesInAll}
 use Rattle.job_rules.proofs.Pieces.{length-pieces}
 use Rattle.job_rules.proofs.Refusals.{accepted, read}
-use Rattle.unit_rules.specs.declared.Unit.{Unit}
-use Rattle.unit_rules.specs.declared.Cycled.{Cycled}
-use Rattle.unit_rules.specs.declared.Ran.{Ran}
-use Rattle.unit_rules.specs.Cycle.{cyclesOf}
-use Rattle.unit_rules.specs.Record.{lastOf}
-use Rattle.unit_rules.specs.Calls.{goneOf, registersSet, loadedOf, startOf, cycledOf, ranOf}
-use Rattle.unit_rules.specs.Sequence.{Whole, afterCalls, Call, unitAfter, cyclesIn, unitAfterAll, cyclesInAll}
 use Rattle.unit_rules.specs.Sequence.Call.{cycle, run, register, drained, refusedStart}
 use Rattle.unit_rules.proofs.Positions.{drained-after, cycles-n, cycles-number}
 use Rattle.unit_rules.proofs.WellMade.{WellMade, well-made-test, well-made-gone, well-made-cycles, cycles-join, leftOf, goes-on}

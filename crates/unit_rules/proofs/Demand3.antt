@@ -1,34 +1,15 @@
 -- Demand 3: for any job that a start accepts, on any unit before it, whether or not its last job had finished. Stated over what the calls promise
 -- (specs/Calls.antt), one after another (specs/Sequence.antt). A unit's file of registers is 32 long (`Whole`), as `[Register; 32]` is.
 -- Assumes nothing.
-use Prim.Native.Nat.{ℕ, _+_, _-_, _≤_, _<_, min}
-use mathlib.Core.Path.{_≡_, refl, sym, ap, _∙_}
-use mathlib.Core.Bool.{Bool, true, false, cond}
-use mathlib.Core.List.{List, map}
-use native.Mathlib.Nat.{zero-add, le-refl}
-use native.Mathlib.Omega.{arith}
-use borrow.Author.Tests.{eq-eqb, eqb-true, leb-true, leb-false}
-use lib.Dec.{eqb, leb}
-use lib.ListN.{getD, take, length}
-use lib.Seq.{take-all, length-take-le}
-use Rattle.register.specs.declared.Register.{Register}
-use Rattle.register.specs.Layout.{zeroRegister, rowOf}
-use Rattle.table.specs.Refusal.{DRAINED}
-use Rattle.plain_rules.specs.Machine.{plain, plainRows}
+use Rattle.unit_rules.proofs.Shared.{ℕ, _+_, _-_, _≤_, _<_, min, _≡_, refl, sym, ap, _∙_, Bool, true, false, cond, List, map, zero-add}
+use Rattle.unit_rules.proofs.Shared.{le-refl, arith, eq-eqb, eqb-true, leb-true, leb-false, eqb, leb, getD, take, length, take-all}
+use Rattle.unit_rules.proofs.Shared.{length-take-le, Register, zeroRegister, rowOf, DRAINED, plain, plainRows, registers-as-rows, Job}
+use Rattle.unit_rules.proofs.Shared.{instructionsAt, readOf, programOf, Unit, Cycled, cyclesOf, inDecoded, inExecuted, drainedOf, lastOf}
+use Rattle.unit_rules.proofs.Shared.{heldOf, wellMadeOf, goneOf, registersSet, loadedOf, startOf, cycledOf, ranOf, Whole, afterCalls, Call}
+use Rattle.unit_rules.proofs.Shared.{unitAfterAll, cyclesInAll}
 use Rattle.plain_rules.specs.Answer.{answerOf, executeAllOf}
 use Rattle.plain_rules.proofs.Refusals.{all-good}
-use Rattle.plain_rules.proofs.Theorems.{registers-as-rows}
-use Rattle.job_rules.specs.declared.Job.{Job}
-use Rattle.job_rules.specs.Layout.{instructionsAt}
-use Rattle.job_rules.specs.Read.{readOf}
-use Rattle.job_rules.specs.Write.{programOf}
-use Rattle.unit_rules.specs.declared.Unit.{Unit}
 use Rattle.unit_rules.specs.declared.Started.{Started}
-use Rattle.unit_rules.specs.declared.Cycled.{Cycled}
-use Rattle.unit_rules.specs.Cycle.{cyclesOf}
-use Rattle.unit_rules.specs.Record.{inDecoded, inExecuted, drainedOf, lastOf, heldOf, wellMadeOf}
-use Rattle.unit_rules.specs.Calls.{goneOf, registersSet, loadedOf, startOf, cycledOf, ranOf}
-use Rattle.unit_rules.specs.Sequence.{Whole, afterCalls, Call, unitAfterAll, cyclesInAll}
 use Rattle.unit_rules.proofs.Positions.{drained-after, placed-cycles, cycles-n, cycles-program, cycles-number}
 use Rattle.unit_rules.proofs.WellMade.{WellMade, well-made-test, well-made-cycles, cycles-join, leftOf}
 use Rattle.unit_rules.proofs.Calls.{Sound, all-made, ran, start-refused, sound-read, started-is, set-from-file, left-as-they-were, well-made-started, registers-started, next-call, no-call, calls-are-cycles}

@@ -1,28 +1,13 @@
 -- The stages on latches and single registers are those of "One cycle". Carried by the cases of each latch, and by the count: below n it is below 64.
 -- Assumes nothing.
-use Prim.Native.Nat.{ℕ, _<_, _≤_, _%_}
-use mathlib.Core.Path.{_≡_, refl}
-use mathlib.Core.Bool.{Bool, true, false, cond, _&&_}
-use mathlib.Core.List.{List}
-use native.Mathlib.Omega.{arith}
-use borrow.Author.Tests.{ltb-true}
-use lib.Dec.{ltb}
-use lib.ListN.{getD, set}
-use Rattle.register.specs.declared.Register.{Register}
+use Rattle.unit_rules.proofs.Shared.{ℕ, _<_, _≤_, _%_, _≡_, refl, Bool, true, false, cond, _&&_, List, arith, ltb-true, ltb, getD, set}
+use Rattle.unit_rules.proofs.Shared.{Register, Pointer, Target, None, To, takesFirst, takesSecond, takesThird, stored, IfId, IdEx, ExWb}
+use Rattle.unit_rules.proofs.Shared.{readBy, isTarget, newest, afterWB, afterEX, afterID, afterIF, writeTo, writeOf, newestBy, executedBy}
+use Rattle.unit_rules.proofs.Shared.{sourcesOf, readAt, decodedWith, deliveredOf}
+use Rattle.unit_rules.proofs.Shared.IF/ID
+use Rattle.unit_rules.proofs.Shared.ID/EX
+use Rattle.unit_rules.proofs.Shared.EX/WB
 use Rattle.table.specs.declared.Count.{Count}
-use Rattle.table.specs.declared.Pointer.{Pointer}
-use Rattle.table.specs.declared.Target.{Target}
-use Rattle.table.specs.declared.Target.the-variants.{None, To}
-use Rattle.table.specs.Operation.{takesFirst, takesSecond, takesThird}
-use Rattle.plain_rules.specs.Machine.{stored}
-use Rattle.unit_rules.specs.declared.IfId.{IfId}
-use Rattle.unit_rules.specs.declared.IfId.the-variants as IF/ID
-use Rattle.unit_rules.specs.declared.IdEx.{IdEx}
-use Rattle.unit_rules.specs.declared.IdEx.the-variants as ID/EX
-use Rattle.unit_rules.specs.declared.ExWb.{ExWb}
-use Rattle.unit_rules.specs.declared.ExWb.the-variants as EX/WB
-use Rattle.unit_rules.specs.Cycle.{readBy, isTarget, newest, afterWB, afterEX, afterID, afterIF}
-use Rattle.unit_rules.specs.Stages.{writeTo, writeOf, newestBy, executedBy, sourcesOf, readAt, decodedWith, deliveredOf}
 
 -- ---- 1. WB
 

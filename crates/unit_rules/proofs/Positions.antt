@@ -1,23 +1,12 @@
 -- Where count and latches stand, and when a unit is drained: of any record whose count and latches are where its cycle number puts them, whatever values
 -- are latched. Carried by the five places that a cycle number can have with regard to n.
 -- Assumes nothing.
-use Prim.Native.Nat.{ℕ, zero, suc, _+_, _-_, _≤_, _<_, min}
-use mathlib.Core.Path.{_≡_, refl, _∙_}
-use mathlib.Core.Bool.{Bool, true, false, cond, _&&_}
-use mathlib.Core.List.{List}
-use native.Mathlib.Numerals.{add-one}
-use native.Mathlib.Omega.{arith}
-use borrow.Author.Tests.{lt-ltb, le-ltb, le-leb, lt-leb, leb-true, leb-false, ltb-true, ltb-false, eqb-true, eqb-false, ne-eqb}
-use lib.Dec.{eqb, ltb, leb, leb·zero, leb·suc-suc}
-use Rattle.register.specs.declared.Register.{Register}
-use Rattle.unit_rules.specs.declared.IfId.{IfId}
-use Rattle.unit_rules.specs.declared.IfId.the-variants as IF/ID
-use Rattle.unit_rules.specs.declared.IdEx.{IdEx}
-use Rattle.unit_rules.specs.declared.IdEx.the-variants as ID/EX
-use Rattle.unit_rules.specs.declared.ExWb.{ExWb}
-use Rattle.unit_rules.specs.declared.Unit.{Unit}
-use Rattle.unit_rules.specs.Cycle.{afterEX, afterID, afterIF, countAfter, cycleOf, cyclesOf}
-use Rattle.unit_rules.specs.Record.{inDecoded, inExecuted, isEmpty, drainedOf, lastOf, heldOf}
+use Rattle.unit_rules.proofs.Shared.{ℕ, zero, suc, _+_, _-_, _≤_, _<_, min, _≡_, refl, _∙_, Bool, true, false, cond, _&&_, List, add-one}
+use Rattle.unit_rules.proofs.Shared.{arith, lt-ltb, le-ltb, le-leb, lt-leb, leb-true, leb-false, ltb-true, ltb-false, eqb-true, eqb-false}
+use Rattle.unit_rules.proofs.Shared.{ne-eqb, eqb, ltb, leb, leb·zero, leb·suc-suc, Register, IfId, IdEx, ExWb, Unit, afterEX, afterID, afterIF}
+use Rattle.unit_rules.proofs.Shared.{countAfter, cycleOf, cyclesOf, inDecoded, inExecuted, isEmpty, drainedOf, lastOf, heldOf}
+use Rattle.unit_rules.proofs.Shared.IF/ID
+use Rattle.unit_rules.proofs.Shared.ID/EX
 
 -- ---- what cycles leave alone
 

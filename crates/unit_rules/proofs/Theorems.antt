@@ -1,21 +1,11 @@
 -- For the reader of specs/: what the test of a record says, that a record which is not well made is refused with 10 at every call but a start, and where a
 -- register's number ends.
 -- Assumes nothing.
-use Prim.Native.Nat.{ℕ, _≤_, _<_}
-use mathlib.Core.Path.{_≡_, refl}
-use mathlib.Core.Logic.{_↔_}
-use mathlib.Core.Bool.{Bool, true, false}
-use borrow.Author.Tests.{lt-ltb, le-ltb}
-use lib.ListN.{getD}
-use Rattle.register.specs.Layout.{zeroRegister}
-use Rattle.table.specs.Refusal.{POINTER, STATE, firstBad}
-use Rattle.unit_rules.specs.declared.Unit.{Unit}
-use Rattle.unit_rules.specs.declared.Cycled.{Cycled}
-use Rattle.unit_rules.specs.declared.Ran.{Ran}
+use Rattle.unit_rules.proofs.Shared.{ℕ, _≤_, _<_, _≡_, refl, _↔_, Bool, true, false, lt-ltb, le-ltb, getD, zeroRegister, STATE, firstBad, Unit}
+use Rattle.unit_rules.proofs.Shared.{Cycled, Ran, drainedOf, wellMadeOf, freshOf, cycledOf, ranOf, registerOf, askedDrained}
+use Rattle.table.specs.Refusal.{POINTER}
 use Rattle.unit_rules.specs.declared.RegisterAnswer.{RegisterAnswer}
 use Rattle.unit_rules.specs.declared.Drained.{Drained}
-use Rattle.unit_rules.specs.Record.{drainedOf, wellMadeOf}
-use Rattle.unit_rules.specs.Calls.{freshOf, cycledOf, ranOf, registerOf, askedDrained}
 use Rattle.unit_rules.proofs.WellMade.{WellMade, well-made-says, well-made-test}
 
 -- the test holds exactly of what document 01 calls well made

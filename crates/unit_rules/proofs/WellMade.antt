@@ -1,23 +1,11 @@
--- A well-made record, in document 01's words as equations, and the test of it. Carried by the laws of `Control`; the comparison of latches is equality.
+-- A well-made record, in document 01's words as equations, and the test of it. Carried by the laws of `Positions`; the comparison of latches is equality.
 -- Assumes nothing.
-use Prim.Native.Nat.{ℕ, zero, suc, _+_, _-_, _≤_, min}
-use mathlib.Core.Path.{_≡_, refl, sym, ap, _∙_}
-use mathlib.Core.Bool.{Bool, true, false, cond, _&&_, false≢true}
-use native.Mathlib.Nat.{add-zero, add-suc}
-use native.Mathlib.Omega.{arith}
-use borrow.Author.Tests.{le-leb, leb-true, leb-false, eqb-true, eq-eqb}
-use lib.Dec.{eqb, leb}
-use lib.ListN.{take}
-use Rattle.table.specs.declared.Target.{Target}
-use Rattle.table.specs.declared.Target.the-variants.{None, To}
-use Rattle.table.specs.Refusal.{firstBad}
+use Rattle.unit_rules.proofs.Shared.{ℕ, zero, suc, _+_, _-_, _≤_, min, _≡_, refl, sym, ap, _∙_, Bool, true, false, cond, _&&_, false≢true}
+use Rattle.unit_rules.proofs.Shared.{add-zero, add-suc, arith, le-leb, leb-true, leb-false, eqb-true, eq-eqb, eqb, leb, take, Target, None, To}
+use Rattle.unit_rules.proofs.Shared.{firstBad, IfId, Unit, cycleOf, cyclesOf, inDecoded, inExecuted, drainedOf, lastOf, heldOf, sameTarget}
+use Rattle.unit_rules.proofs.Shared.{sameInstruction, sameHeld, numbersMade, latchesMade, wellMadeOf, goneOf, goesOn}
+use Rattle.unit_rules.proofs.Shared.IF/ID
 use Rattle.unit_rules.specs.declared.Instruction.{Instruction}
-use Rattle.unit_rules.specs.declared.IfId.{IfId}
-use Rattle.unit_rules.specs.declared.IfId.the-variants as IF/ID
-use Rattle.unit_rules.specs.declared.Unit.{Unit}
-use Rattle.unit_rules.specs.Cycle.{cycleOf, cyclesOf}
-use Rattle.unit_rules.specs.Record.{inDecoded, inExecuted, drainedOf, lastOf, heldOf, sameTarget, sameInstruction, sameHeld, numbersMade, latchesMade, wellMadeOf}
-use Rattle.unit_rules.specs.Calls.{goneOf, goesOn}
 use Rattle.unit_rules.proofs.Positions.{Placed, placed-cycle, placed-cycles, drained-is, cycles-n, cycles-program, cycles-number}
 
 -- "n is at most 64, its n words are below 2^25, the cycle number c is at most n+3 (0 when n is 0), the count is the smaller of c and n, and the latches

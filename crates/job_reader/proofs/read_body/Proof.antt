@@ -3,30 +3,10 @@ use mathlib.Core.Path.{sym}
 use borrow.Author.Needs.{needs}
 use lib.Seq.{length-take-le}
 use Rattle.job_rules.proofs.Refusals.{bad-in-file, job-in-file}
-use Rattle.job_reader.proofs.read_body.Statement.{statement}
-use Rattle.job_reader.proofs.read_body.Tie as tie
+use Rattle.job_reader.proofs.read_body as this
 
-slice-aggregate-first-bad : tie.Need-slice-aggregate-first-bad
-slice-aggregate-first-bad c = sym (length-take-le _ _ (search needs))
-
-returns : tie.Need-returns
-returns c = search (bad-in-file, needs)
-
-returns-2 : tie.Need-returns-2
-returns-2 c = search (job-in-file, needs)
-
-pub read-body-spec : {M : Type 1} → statement M
+pub read-body-spec : {M : Type 1} → this.Statement.statement M
 read-body-spec =
-    tie.close
-    (tie.spec
-    (λ c. search needs)
-    (λ c κs. search needs)
-    (λ c. search needs)
-    slice-aggregate-first-bad
-    (λ c κs. search needs)
-    (λ c κs. search needs)
-    returns
-    (λ c. search needs)
-    (λ c. search needs)
-    (λ c κs. search needs)
-    returns-2)
+    this.Tie.close
+    (this.Tie.spec (λ c. search needs) (λ c. search needs) (λ c. search needs) (λ c. sym (length-take-le _ _ (search needs))) _ _
+    (λ c. search (bad-in-file, needs)) (λ c. search needs) (λ c. search needs) (λ c. search needs) (λ c. search (job-in-file, needs)))

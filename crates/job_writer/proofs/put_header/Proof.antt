@@ -4,10 +4,9 @@ use mathlib.Core.List.{_++_}
 use borrow.Author.Needs.{needs}
 use Rattle.buffer.proofs.Parts.{then-front}
 use Rattle.job_rules.specs.Layout.{registersAt, twoBytes}
-use Rattle.job_writer.proofs.put_header.Statement.{statement}
-use Rattle.job_writer.proofs.put_header.Tie as tie
+use Rattle.job_writer.proofs.put_header as this
 
-returns : tie.Need-returns
+returns : this.Tie.Need-returns
 returns c =
     let behind = c .before .before in
     let front = behind .before .before .before .before in
@@ -16,16 +15,8 @@ returns c =
     let offsets = twoBytes (a .at) ++ twoBytes (registersAt (a .at) (a .n)) in
     then-front 4 counts offsets (a .out .now) _ _ refl (front .put-pair .ensures) (behind .put-pair2 .ensures)
 
-pub put-header-spec : {M : Type 1} → statement M
+pub put-header-spec : {M : Type 1} → this.Statement.statement M
 put-header-spec =
-    tie.close
-    (tie.spec
-    (λ c κs. search needs)
-    (λ c. search needs)
-    (λ c. search needs)
-    (λ c. search needs)
-    (λ c. search needs)
-    (λ c. search needs)
-    (λ c κs. search needs)
-    (λ c. search needs)
-    returns)
+    this.Tie.close
+    (this.Tie.spec (λ c. search needs) (λ c. search needs) (λ c. search needs) (λ c. search needs) (λ c. search needs) (λ c. search needs)
+    (λ c. search needs) (λ c. search needs) returns)

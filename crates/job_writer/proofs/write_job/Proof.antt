@@ -1,4 +1,4 @@
--- Carried by the laws of `Tests` on the buffer: the answer decides whether the job is put, and what is not refused fits.
+-- Carried by the laws of `Refusals` on the buffer: the answer decides whether the job is put, and what is not refused fits.
 use Prim.Native.Nat.{ℕ, _+_, _*_, _≤_}
 use mathlib.Core.Path.{_≡_, sym, ap, _∙_}
 use mathlib.Core.List.{List}
@@ -10,8 +10,7 @@ use Rattle.job_rules.specs.Layout.{instructionsAt}
 use Rattle.job_rules.specs.Write.{sizeOrRefusal}
 use Rattle.job_rules.proofs.Refusals as tests
 use Rattle.job_rules.proofs.Pieces.{job-size}
-use Rattle.job_writer.proofs.write_job.Statement.{statement}
-use Rattle.job_writer.proofs.write_job.Tie as tie
+use Rattle.job_writer.proofs.write_job as this
 
 fits : (words bytes : List ℕ) (room : ℕ) {answer : Written} → answer ≡ sizeOrRefusal instructionsAt words bytes room → answer .refusal ≡ 0
     → (length words ≤ 64) × (8 + 4 * length words + length bytes ≤ room)
@@ -19,14 +18,9 @@ fits words bytes room e taken =
     let a = tests.asked-accepts instructionsAt words bytes room (sym (ap (λ (w : Written). w .refusal) e) ∙ taken) in
     (a .job .few, omega (arith, a .enough, job-size words bytes))
 
-returns : tie.Need-returns
-returns c = search (tests.not-written, needs)
-
-put-job-requires : tie.Need-put-job-requires
-put-job-requires c κs = fits _ _ _ (c .before .before .before .size-or-refusal .ensures) (c .before .if1 .left)
-
-returns-2 : tie.Need-returns-2
-returns-2 c = search (tests.job-written, needs)
-
-pub write-job-spec : {M : Type 1} → statement M
-write-job-spec = tie.close (tie.spec (λ c κs. search needs) returns put-job-requires (λ c. search needs) returns-2)
+pub write-job-spec : {M : Type 1} → this.Statement.statement M
+write-job-spec =
+    this.Tie.close
+    (this.Tie.spec _ (λ c. search (tests.not-written, needs))
+    (λ c κs. fits _ _ _ (c .before .before .before .size-or-refusal .ensures) (c .before .if1 .left)) (λ c. search needs)
+    (λ c. search (tests.job-written, needs)))

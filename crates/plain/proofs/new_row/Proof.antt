@@ -1,20 +1,11 @@
 -- Carried by the contract of `gives`, at the rows read as registers.
-use borrow.Author.Needs.{needs}
-use Rattle.plain.proofs.new_row.Statement.{statement}
-use Rattle.plain.proofs.new_row.Tie as tie
+use Rattle.plain.proofs.new_row as this
 
-returns : tie.Need-returns
+returns : this.Tie.Need-returns
 returns c =
-    rw (c .before .result .ensures, c .before .before .before .before .from-row .ensures, c .before .before .before .from-row2 .ensures, c .before .before .from-row3 .ensures)
+    let read = c .before .before in
+    rw (c .before .result .ensures, read .before .before .from-row .ensures, read .before .from-row2 .ensures, read .from-row3 .ensures)
     at (c .to-row .ensures)
 
-pub new-row-spec : {M : Type 1} → statement M
-new-row-spec =
-    tie.close
-    (tie.spec
-    (λ c κs. search needs)
-    (λ c κs. search needs)
-    (λ c κs. search needs)
-    (λ c κs. search needs)
-    (λ c κs. search needs)
-    returns)
+pub new-row-spec : {M : Type 1} → this.Statement.statement M
+new-row-spec = this.Tie.close (this.Tie.spec _ _ _ _ _ returns)

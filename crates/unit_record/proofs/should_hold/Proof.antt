@@ -1,27 +1,10 @@
--- Carried by the laws of `Recorded`: before the first line, past the last one, and at a line.
+-- Carried by the laws of `WellMade`: before the first line, past the last one, and at a line.
 use borrow.Author.Needs.{needs}
-use Rattle.unit_record.proofs.WellMade as recorded
-use Rattle.unit_record.proofs.should_hold.Statement.{statement}
-use Rattle.unit_record.proofs.should_hold.Tie as tie
+use Rattle.unit_record.proofs.WellMade.{not-begun, at-a-line, past-the-end}
+use Rattle.unit_record.proofs.should_hold as this
 
-returns : tie.Need-returns
-returns c = search (recorded.not-begun, needs)
-
-returns-2 : tie.Need-returns-2
-returns-2 c = search (recorded.at-a-line, needs)
-
-returns-3 : tie.Need-returns-3
-returns-3 c = search (recorded.past-the-end, needs)
-
-pub should-hold-spec : {M : Type 1} → statement M
+pub should-hold-spec : {M : Type 1} → this.Statement.statement M
 should-hold-spec =
-    tie.close
-    (tie.spec
-    returns
-    (λ c. search needs)
-    (λ c. search needs)
-    (λ c. search needs)
-    (λ c. search needs)
-    (λ c κs. search needs)
-    returns-2
-    returns-3)
+    this.Tie.close
+    (this.Tie.spec (λ c. search (not-begun, needs)) (λ c. search needs) (λ c. search needs) (λ c. search needs) (λ c. search needs) _
+    (λ c. search (at-a-line, needs)) (λ c. search (past-the-end, needs)))

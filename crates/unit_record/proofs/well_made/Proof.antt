@@ -1,26 +1,10 @@
--- Carried by the laws of `Recorded`: the numbers as their test came out, then the latches.
+-- Carried by the laws of `WellMade`: the numbers as their test came out, then the latches.
 use borrow.Author.Needs.{needs}
-use Rattle.unit_record.proofs.WellMade as recorded
-use Rattle.unit_record.proofs.well_made.Statement.{statement}
-use Rattle.unit_record.proofs.well_made.Tie as tie
+use Rattle.unit_record.proofs.WellMade.{lines-within, latches-decide, other-numbers}
+use Rattle.unit_record.proofs.well_made as this
 
-latches-made-requires : tie.Need-latches-made-requires
-latches-made-requires c κs = search (recorded.lines-within, needs)
-
-returns : tie.Need-returns
-returns c = search (recorded.latches-decide, needs)
-
-returns-2 : tie.Need-returns-2
-returns-2 c = search (recorded.other-numbers, needs)
-
-pub well-made-spec : {M : Type 1} → statement M
+pub well-made-spec : {M : Type 1} → this.Statement.statement M
 well-made-spec =
-    tie.close
-    (tie.spec
-    (λ c κs. search needs)
-    (λ c. search needs)
-    (λ c κs. search needs)
-    (λ c κs. search needs)
-    latches-made-requires
-    returns
-    returns-2)
+    this.Tie.close
+    (this.Tie.spec _ (λ c. search needs) _ _ (λ c κs. search (lines-within, needs)) (λ c. search (latches-decide, needs))
+    (λ c. search (other-numbers, needs)))

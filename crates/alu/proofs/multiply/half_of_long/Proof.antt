@@ -1,13 +1,6 @@
 -- Carried by the test alone.
-use borrow.Author.Needs.{needs}
-use Rattle.alu.proofs.multiply.half_of_long.Statement.{statement}
-use Rattle.alu.proofs.multiply.half_of_long.Tie as tie
+use native.Mathlib.Omega.{arith}
+use Rattle.alu.proofs.multiply.half_of_long as this
 
-returns : tie.Need-returns
-returns c = rw (c .if1 .taken)
-
-returns-2 : tie.Need-returns-2
-returns-2 c = rw (c .if1 .left)
-
-pub half-of-long-spec : {M : Type 1} → statement M
-half-of-long-spec = tie.close (tie.spec (λ c. search needs) (λ c. search needs) returns returns-2)
+pub half-of-long-spec : {M : Type 1} → this.Statement.statement M
+half-of-long-spec = this.Tie.close (this.Tie.spec (omega arith) (omega arith) (λ c. rw (c .if1 .taken)) (λ c. rw (c .if1 .left)))

@@ -1,14 +1,5 @@
 -- Carried by the test alone.
-use borrow.Author.Needs.{needs}
-use Rattle.alu.proofs.multiply.multiply.Statement.{statement}
-use Rattle.alu.proofs.multiply.multiply.Tie as tie
+use Rattle.alu.proofs.multiply.multiply as this
 
-returns : tie.Need-returns
-returns c = rw (c .before .if1 .taken) (c .multiply-longs .ensures)
-
-returns-2 : tie.Need-returns-2
-returns-2 c = rw (c .before .if1 .left) (c .multiply-words .ensures)
-
-pub multiply-spec : {M : Type 1} → statement M
-multiply-spec =
-    tie.close (tie.spec (λ c κs. search needs) (λ c κs. search needs) returns returns-2)
+pub multiply-spec : {M : Type 1} → this.Statement.statement M
+multiply-spec = this.Tie.close (this.Tie.spec _ _ (λ c. rw (c .before .if1 .taken) (c .multiply-longs .ensures)) (λ c. rw (c .before .if1 .left) (c .multiply-words .ensures)))

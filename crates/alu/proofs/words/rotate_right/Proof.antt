@@ -1,23 +1,6 @@
 -- Carried by the contract of the lane operation at each of the four words.
-use borrow.Author.Needs.{needs}
-use Rattle.register.proofs.Equality as made
-use Rattle.alu.proofs.words.rotate_right.Statement.{statement}
-use Rattle.alu.proofs.words.rotate_right.Tie as tie
+use Rattle.register.proofs.Equality.{same}
+use Rattle.alu.proofs.words.rotate_right as this
 
-returns : tie.Need-returns
-returns c =
-    made.same
-    (c .before .before .before .rotate-right .ensures)
-    (c .before .before .rotate-right2 .ensures)
-    (c .before .rotate-right3 .ensures)
-    (c .rotate-right4 .ensures)
-
-pub rotate-right-spec : {M : Type 1} → statement M
-rotate-right-spec =
-    tie.close
-    (tie.spec
-    (λ c κs. search needs)
-    (λ c κs. search needs)
-    (λ c κs. search needs)
-    (λ c κs. search needs)
-    returns)
+pub rotate-right-spec : {M : Type 1} → this.Statement.statement M
+rotate-right-spec = this.Tie.close (this.Tie.spec _ _ _ _ (λ c. search same))

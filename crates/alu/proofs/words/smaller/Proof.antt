@@ -1,18 +1,6 @@
 -- Carried by the contract of the lane operation at each of the four words.
-use borrow.Author.Needs.{needs}
-use Rattle.register.proofs.Equality as made
-use Rattle.alu.proofs.words.smaller.Statement.{statement}
-use Rattle.alu.proofs.words.smaller.Tie as tie
+use Rattle.register.proofs.Equality.{same}
+use Rattle.alu.proofs.words.smaller as this
 
-returns : tie.Need-returns
-returns c =
-    made.same
-    (c .before .before .before .smaller .ensures)
-    (c .before .before .smaller2 .ensures)
-    (c .before .smaller3 .ensures)
-    (c .smaller4 .ensures)
-
-pub smaller-spec : {M : Type 1} → statement M
-smaller-spec =
-    tie.close
-    (tie.spec (λ c κs. search needs) (λ c κs. search needs) (λ c κs. search needs) (λ c κs. search needs) returns)
+pub smaller-spec : {M : Type 1} → this.Statement.statement M
+smaller-spec = this.Tie.close (this.Tie.spec _ _ _ _ (λ c. search same))

@@ -1,11 +1,9 @@
 -- Carried by the contract of `clamped_sum`, at the product.
 use borrow.Author.Needs.{needs}
-use Rattle.alu_lanes.proofs.clamped.multiply_add_16.Statement.{statement}
-use Rattle.alu_lanes.proofs.clamped.multiply_add_16.Tie as tie
+use Rattle.alu_lanes.proofs.clamped.multiply_add_16 as this
 
-returns : tie.Need-returns
-returns c = rw (c .before .product .ensures) at (c .clamped-sum .ensures .0)
-
-pub multiply-add-16-spec : {M : Type 1} → statement M
+pub multiply-add-16-spec : {M : Type 1} → this.Statement.statement M
 multiply-add-16-spec =
-    tie.close (tie.spec (λ c κs. search needs) (λ c κs. search needs) (λ c. search needs) returns)
+    this.Tie.close
+    (this.Tie.spec (λ c. search needs) (λ c. search needs) (λ c. search needs)
+    (λ c. rw (c .before .product .ensures) at (c .clamped-sum .ensures .0)))

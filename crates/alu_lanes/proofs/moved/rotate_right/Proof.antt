@@ -2,12 +2,10 @@
 use native.Mathlib.Omega.{arith}
 use borrow.Author.Needs.{needs}
 use Rattle.alu_lanes.proofs.Words as words
-use Rattle.alu_lanes.proofs.moved.rotate_right.Statement.{statement}
-use Rattle.alu_lanes.proofs.moved.rotate_right.Tie as tie
+use Rattle.alu_lanes.proofs.moved.rotate_right as this
 
-returns : tie.Need-returns
-returns c = words.rotated-by-copies 32 _ _ (omega arith) (search needs)
-
-pub rotate-right-spec : {M : Type 1} → statement M
+pub rotate-right-spec : {M : Type 1} → this.Statement.statement M
 rotate-right-spec =
-    tie.close (tie.spec (λ c. search needs) (λ c. search needs) (λ c. search needs) (λ c. search needs) (λ c. search needs) returns)
+    this.Tie.close
+    (this.Tie.spec (λ c. search needs) (λ c. search needs) (λ c. search needs) (λ c. search needs) (λ c. search needs)
+    (λ c. words.rotated-by-copies 32 _ _ (omega arith) (search needs)))

@@ -2,11 +2,7 @@
 use native.Mathlib.Omega.{arith}
 use borrow.Author.Needs.{needs}
 use Rattle.register.proofs.Joined.{product-fits}
-use Rattle.alu_lanes.proofs.multiplied.multiply_low_half_by.Statement.{statement}
-use Rattle.alu_lanes.proofs.multiplied.multiply_low_half_by.Tie as tie
+use Rattle.alu_lanes.proofs.multiplied.multiply_low_half_by as this
 
-mul-result : tie.Need-mul-result
-mul-result c = record { fits = product-fits 16 (omega arith) (omega arith) }
-
-pub multiply-low-half-by-spec : {M : Type 1} → statement M
-multiply-low-half-by-spec = tie.close (tie.spec mul-result (λ c. search needs))
+pub multiply-low-half-by-spec : {M : Type 1} → this.Statement.statement M
+multiply-low-half-by-spec = this.Tie.close (this.Tie.spec (λ c. record { fits = product-fits 16 (omega arith) (omega arith) }) (λ c. search needs))

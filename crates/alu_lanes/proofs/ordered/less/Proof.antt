@@ -2,11 +2,10 @@
 use borrow.Author.Needs.{needs}
 use lib.Dec.{lit<}
 use Rattle.alu_lanes.proofs.Signed as signed
-use Rattle.alu_lanes.proofs.ordered.less.Statement.{statement}
-use Rattle.alu_lanes.proofs.ordered.less.Tie as tie
+use Rattle.alu_lanes.proofs.ordered.less as this
 
-returns : tie.Need-returns
-returns c = signed.order 32 (lit< tt) _ _ (search needs) (search needs) (c .before .turn .ensures .0) (c .turn2 .ensures .0)
-
-pub less-spec : {M : Type 1} → statement M
-less-spec = tie.close (tie.spec (λ c κs. search needs) (λ c κs. search needs) returns)
+pub less-spec : {M : Type 1} → this.Statement.statement M
+less-spec =
+    this.Tie.close
+    (this.Tie.spec (λ c. search needs) (λ c. search needs)
+    (λ c. signed.order 32 (lit< tt) _ _ (search needs) (search needs) (c .before .turn .ensures .0) (c .turn2 .ensures .0)))

@@ -1,50 +1,15 @@
 -- Carried by the bytes that are left.
 use Prim.Native.Nat.{_≤_, _-_}
 use borrow.Author.Needs.{needs}
-use Rattle.bench.proofs.print.front.Statement.{statement}
-use Rattle.bench.proofs.print.front.Tie as tie
+use Rattle.bench.proofs.print.front as this
 
-abbrev Inv-loop : tie.InvT-loop
+abbrev Inv-loop : this.Tie.InvT-loop
 Inv-loop buffer i₀ i = i ≤ 8
 
-abbrev μ-loop : tie.MeasureT-loop
+abbrev μ-loop : this.Tie.MeasureT-loop
 μ-loop buffer i₀ i = 8 - i
 
-loop-holds : tie.Need-loop-holds Inv-loop μ-loop
-loop-holds c = search needs
-
-element-copy-out-byte : tie.Need-element-copy-out-byte Inv-loop μ-loop
-element-copy-out-byte c = search needs
-
-byte-requires : tie.Need-byte-requires Inv-loop μ-loop
-byte-requires c κs = search needs
-
-add-i : tie.Need-add-i Inv-loop μ-loop
-add-i c = search needs
-
-loop-less : tie.Need-loop-less Inv-loop μ-loop
-loop-less c = search needs
-
-loop-again : tie.Need-loop-again Inv-loop μ-loop
-loop-again c = search needs
-
-text-requires : tie.Need-text-requires Inv-loop μ-loop
-text-requires c κs = search needs
-
-returns : tie.Need-returns Inv-loop μ-loop
-returns c = search needs
-
-pub front-spec : {M : Type 1} → statement M
+pub front-spec : {M : Type 1} → this.Statement.statement M
 front-spec =
-    tie.close
-    (tie.spec
-    Inv-loop
-    μ-loop
-    loop-holds
-    element-copy-out-byte
-    byte-requires
-    add-i
-    loop-less
-    loop-again
-    text-requires
-    returns)
+    this.Tie.close
+    (this.Tie.spec Inv-loop μ-loop (λ c. search needs) (λ c. search needs) _ (λ c. search needs) (λ c. search needs) (λ c. search needs) _ _)

@@ -1,21 +1,10 @@
 -- Carried by `register-there`: a register is four words, one behind another.
 use borrow.Author.Needs.{needs}
 use Rattle.job_rules.proofs.Pieces.{register-there}
-use Rattle.job_reader.proofs.numbers.register_at.Statement.{statement}
-use Rattle.job_reader.proofs.numbers.register_at.Tie as tie
+use Rattle.job_reader.proofs.numbers.register_at as this
 
-returns : tie.Need-returns
-returns c = search (register-there, needs)
-
-pub register-at-spec : {M : Type 1} → statement M
+pub register-at-spec : {M : Type 1} → this.Statement.statement M
 register-at-spec =
-    tie.close
-    (tie.spec
-    (λ c κs. search needs)
-    (λ c. search needs)
-    (λ c κs. search needs)
-    (λ c. search needs)
-    (λ c κs. search needs)
-    (λ c. search needs)
-    (λ c κs. search needs)
-    returns)
+    this.Tie.close
+    (this.Tie.spec (λ c. search needs) (λ c. search needs) (λ c. search needs) (λ c. search needs) (λ c. search needs) (λ c. search needs)
+    (λ c. search needs) (λ c. search (register-there, needs)))

@@ -1,10 +1,9 @@
 -- Carried by the contract of `word_at` at each of the four words.
 use borrow.Author.Needs.{needs}
 use Rattle.register.proofs.Equality as made
-use Rattle.register.proofs.Register.from_bytes.Statement.{statement}
-use Rattle.register.proofs.Register.from_bytes.Tie as tie
+use Rattle.register.proofs.Register.from_bytes as this
 
-returns : tie.Need-returns
+returns : this.Tie.Need-returns
 returns c =
     made.same
     (c .before .before .before .word-at .ensures)
@@ -12,7 +11,5 @@ returns c =
     (c .before .word-at3 .ensures)
     (c .word-at4 .ensures)
 
-pub from-bytes-spec : {M : Type 1} → statement M
-from-bytes-spec =
-    tie.close
-    (tie.spec (λ c κs. search needs) (λ c κs. search needs) (λ c κs. search needs) (λ c κs. search needs) returns)
+pub from-bytes-spec : {M : Type 1} → this.Statement.statement M
+from-bytes-spec = this.Tie.close (this.Tie.spec (λ c. search needs) (λ c. search needs) (λ c. search needs) (λ c. search needs) returns)

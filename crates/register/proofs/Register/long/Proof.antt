@@ -4,24 +4,13 @@ use borrow.Author.Needs.{needs}
 use Rattle.register.specs.Halves.{join}
 use Rattle.register.proofs.WordBounds.{held}
 use Rattle.register.proofs.Lanes as lanes
-use Rattle.register.proofs.Register.long.Statement.{statement}
-use Rattle.register.proofs.Register.long.Tie as tie
+use Rattle.register.proofs.Register.long as this
 
-returns : tie.Need-returns
+returns : this.Tie.Need-returns
 returns c = c .join-words .ensures ∙ ap₂ (join 32) (c .before .before .word .ensures) (c .before .word2 .ensures) ∙ lanes.joined-lanes 32 _ _
 
-returns-2 : tie.Need-returns-2
-returns-2 c = sym (lanes.no-long _ _ (held (c .before .good .0)) (c .if1 .left))
-
-pub long-spec : {M : Type 1} → statement M
+pub long-spec : {M : Type 1} → this.Statement.statement M
 long-spec =
-    tie.close
-    (tie.spec
-    (λ c. search needs)
-    (λ c. search needs)
-    (λ c κs. search needs)
-    (λ c. search needs)
-    (λ c κs. search needs)
-    (λ c κs. search needs)
-    returns
-    returns-2)
+    this.Tie.close
+    (this.Tie.spec (λ c. search needs) (λ c. search needs) _ (λ c. search needs) _ _ returns
+    (λ c. sym (lanes.no-long _ _ (held (c .before .good .0)) (c .if1 .left))))

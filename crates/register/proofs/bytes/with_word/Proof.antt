@@ -1,25 +1,10 @@
 -- Carried by the search alone: the stores are the definition.
 use mathlib.Core.Path.{refl}
 use borrow.Author.Needs.{needs}
-use Rattle.register.proofs.bytes.with_word.Statement.{statement}
-use Rattle.register.proofs.bytes.with_word.Tie as tie
+use Rattle.register.proofs.bytes.with_word as this
 
-returns : tie.Need-returns
-returns c = refl
-
-pub with-word-spec : {M : Type 1} → statement M
+pub with-word-spec : {M : Type 1} → this.Statement.statement M
 with-word-spec =
-    tie.close
-    (tie.spec
-    (λ c. search needs)
-    (λ c. search needs)
-    (λ c. search needs)
-    (λ c. search needs)
-    (λ c. search needs)
-    (λ c. search needs)
-    (λ c. search needs)
-    (λ c. search needs)
-    (λ c. search needs)
-    (λ c. search needs)
-    (λ c. search needs)
-    returns)
+    this.Tie.close
+    (this.Tie.spec (λ c. search needs) (λ c. search needs) (λ c. search needs) (λ c. search needs) (λ c. search needs) (λ c. search needs)
+    (λ c. search needs) (λ c. search needs) (λ c. search needs) (λ c. search needs) (λ c. search needs) (λ c. refl))

@@ -1,20 +1,10 @@
 -- Carried by the search alone: the sum is the definition.
 use mathlib.Core.Path.{refl}
 use borrow.Author.Needs.{needs}
-use Rattle.register.proofs.bytes.word_of_bytes.Statement.{statement}
-use Rattle.register.proofs.bytes.word_of_bytes.Tie as tie
+use Rattle.register.proofs.bytes.word_of_bytes as this
 
-returns : tie.Need-returns
-returns c = refl
-
-pub word-of-bytes-spec : {M : Type 1} → statement M
+pub word-of-bytes-spec : {M : Type 1} → this.Statement.statement M
 word-of-bytes-spec =
-    tie.close
-    (tie.spec
-    (λ c. search needs)
-    (λ c. search needs)
-    (λ c. search needs)
-    (λ c. search needs)
-    (λ c. search needs)
-    (λ c. search needs)
-    returns)
+    this.Tie.close
+    (this.Tie.spec (λ c. search needs) (λ c. search needs) (λ c. search needs) (λ c. search needs) (λ c. search needs) (λ c. search needs)
+    (λ c. refl))

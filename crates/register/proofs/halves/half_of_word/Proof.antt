@@ -1,13 +1,6 @@
 -- Carried by the test alone.
 use borrow.Author.Needs.{needs}
-use Rattle.register.proofs.halves.half_of_word.Statement.{statement}
-use Rattle.register.proofs.halves.half_of_word.Tie as tie
+use Rattle.register.proofs.halves.half_of_word as this
 
-returns : tie.Need-returns
-returns c = rw (c .if1 .taken)
-
-returns-2 : tie.Need-returns-2
-returns-2 c = rw (c .if1 .left)
-
-pub half-of-word-spec : {M : Type 1} → statement M
-half-of-word-spec = tie.close (tie.spec (λ c. search needs) (λ c. search needs) returns returns-2)
+pub half-of-word-spec : {M : Type 1} → this.Statement.statement M
+half-of-word-spec = this.Tie.close (this.Tie.spec (λ c. search needs) (λ c. search needs) (λ c. rw (c .if1 .taken)) (λ c. rw (c .if1 .left)))

@@ -1,26 +1,12 @@
 -- Carried by the callees: hyphens or digits, as the stage is.
 use borrow.Author.Needs.{needs}
 use Rattle.row_rules.specs.Text.{stageText}
-use Rattle.row.proofs.fields.put_word.Statement.{statement}
-use Rattle.row.proofs.fields.put_word.Tie as tie
+use Rattle.row.proofs.fields.put_word as this
 
-returns : tie.Need-returns
+pub put-word-spec : {M : Type 1} → this.Statement.statement M
 unfolding stageText
-returns c = rw (c .before .before .before .before .enum-told .given .1) (c .before .before .put-hyphens .ensures)
-
-returns-2 : tie.Need-returns-2
-unfolding stageText
-returns-2 c = rw (c .before .before .before .before .before .stage .given .1) (c .before .before .put-hex .ensures)
-
-pub put-word-spec : {M : Type 1} → statement M
 put-word-spec =
-    tie.close
-    (tie.spec
-    (λ c. search needs)
-    (λ c κs. search needs)
-    (λ c. search needs)
-    (λ c κs. search needs)
-    (λ c. search needs)
-    returns
-    (λ c. search needs)
-    returns-2)
+    this.Tie.close
+    (this.Tie.spec (λ c. search needs) (λ c. search needs) (λ c. search needs) (λ c. search needs) (λ c. search needs)
+    (λ c. rw (c .before .before .before .before .enum-told .given .1) (c .before .before .put-hyphens .ensures)) (λ c. search needs)
+    (λ c. let put = c .before .before in rw (put .before .before .before .stage .given .1) (put .put-hex .ensures)))

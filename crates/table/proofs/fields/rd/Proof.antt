@@ -4,11 +4,9 @@ use mathlib.Core.Path.{sym, ap}
 use native.Mathlib.Nat.{div-one}
 use native.Mathlib.Omega.{arith}
 use borrow.Author.Needs.{needs}
-use Rattle.table.proofs.fields.rd.Statement.{statement}
-use Rattle.table.proofs.fields.rd.Tie as tie
+use Rattle.table.proofs.fields.rd as this
 
-returns : tie.Need-returns
-returns c = (λ i. record { 0 = sym (ap (λ (n : ℕ). n % 32) (div-one (c .args .w))) i }, omega arith)
-
-pub rd-spec : {M : Type 1} → statement M
-rd-spec = tie.close (tie.spec (λ c. search needs) returns)
+pub rd-spec : {M : Type 1} → this.Statement.statement M
+rd-spec =
+    this.Tie.close
+    (this.Tie.spec (λ c. search needs) (λ c. (λ i. record { 0 = sym (ap (λ (n : ℕ). n % 32) (div-one (c .args .w))) i }, omega arith)))

@@ -3,11 +3,7 @@ use borrow.Author.Needs.{needs}
 use lib.ListN.{List·getD-map}
 use Rattle.table.specs.Operation.Operation.{nop}
 use Rattle.table.specs.Operation.{readsOf, shortRows}
-use Rattle.table.proofs.operands.short_reads.Statement.{statement}
-use Rattle.table.proofs.operands.short_reads.Tie as tie
+use Rattle.table.proofs.operands.short_reads as this
 
-returns : tie.Need-returns
-returns c = List·getD-map readsOf shortRows (c .before .args .code) nop
-
-pub short-reads-spec : {M : Type 1} → statement M
-short-reads-spec = tie.close (tie.spec (λ c. search needs) returns)
+pub short-reads-spec : {M : Type 1} → this.Statement.statement M
+short-reads-spec = this.Tie.close (this.Tie.spec (λ c. search needs) (λ c. List·getD-map readsOf shortRows (c .before .args .code) nop))

@@ -1,10 +1,9 @@
 -- Carried by the case of the latch.
 use borrow.Author.Needs.{needs}
-use Rattle.trace_row.proofs.shown.change.Statement.{statement}
-use Rattle.trace_row.proofs.shown.change.Tie as tie
+use Rattle.trace_row.proofs.shown.change as this
 
-returns-2 : tie.Need-returns-2
-returns-2 c = rw (c .before .before .latch .given .1) (c .change-to .ensures)
-
-pub change-spec : {M : Type 1} → statement M
-change-spec = tie.close (tie.spec (λ c. search needs) (λ c. search needs) (λ c κs. search needs) (λ c. search needs) returns-2)
+pub change-spec : {M : Type 1} → this.Statement.statement M
+change-spec =
+    this.Tie.close
+    (this.Tie.spec (λ c. search needs) (λ c. search needs) _ (λ c. search needs)
+    (λ c. rw (c .before .before .latch .given .1) (c .change-to .ensures)))

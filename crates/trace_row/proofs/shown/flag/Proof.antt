@@ -1,10 +1,6 @@
 -- Carried by the test whether the field is read.
 use borrow.Author.Needs.{needs}
-use Rattle.trace_row.proofs.shown.flag.Statement.{statement}
-use Rattle.trace_row.proofs.shown.flag.Tie as tie
+use Rattle.trace_row.proofs.shown.flag as this
 
-returns : tie.Need-returns
-returns c = rw (c .before .if1 .taken) (c .writes-to .ensures)
-
-pub flag-spec : {M : Type 1} → statement M
-flag-spec = tie.close (tie.spec (λ c κs. search needs) returns (λ c. search needs))
+pub flag-spec : {M : Type 1} → this.Statement.statement M
+flag-spec = this.Tie.close (this.Tie.spec _ (λ c. rw (c .before .if1 .taken) (c .writes-to .ensures)) (λ c. search needs))

@@ -1,29 +1,18 @@
 -- Carried by the contract of `flag`, at what the table says is read.
-use borrow.Author.Needs.{needs}
-use Rattle.trace_row.proofs.shown.flags_for.Statement.{statement}
-use Rattle.trace_row.proofs.shown.flags_for.Tie as tie
+use Rattle.trace_row.proofs.shown.flags_for as this
 
-returns : tie.Need-returns
+returns : this.Tie.Need-returns
 returns c =
+    let first = c .before .before .before .before in
     rw (
       c .flag3 .ensures,
       c .before .takes-third .ensures,
       c .before .before .flag2 .ensures,
       c .before .before .before .takes-second .ensures,
-      c .before .before .before .before .flag .ensures,
-      c .before .before .before .before .before .reads-rs1 .ensures,
-      c .before .before .before .before .before .before .reads .ensures,
+      first .flag .ensures,
+      first .before .reads-rs1 .ensures,
+      first .before .before .reads .ensures,
     )
 
-pub flags-for-spec : {M : Type 1} → statement M
-flags-for-spec =
-    tie.close
-    (tie.spec
-    (λ c κs. search needs)
-    (λ c κs. search needs)
-    (λ c κs. search needs)
-    (λ c κs. search needs)
-    (λ c κs. search needs)
-    (λ c κs. search needs)
-    (λ c κs. search needs)
-    returns)
+pub flags-for-spec : {M : Type 1} → this.Statement.statement M
+flags-for-spec = this.Tie.close (this.Tie.spec _ _ _ _ _ _ _ returns)

@@ -1,11 +1,9 @@
 -- Carried by the case of the latch.
 use borrow.Author.Needs.{needs}
-use Rattle.trace_row.proofs.shown.writes_to.Statement.{statement}
-use Rattle.trace_row.proofs.shown.writes_to.Tie as tie
+use Rattle.trace_row.proofs.shown.writes_to as this
 
-returns-2 : tie.Need-returns-2
-returns-2 c = rw (c .before .before .latch .given .1) (c .is-target .ensures)
-
-pub writes-to-spec : {M : Type 1} → statement M
+pub writes-to-spec : {M : Type 1} → this.Statement.statement M
 writes-to-spec =
-    tie.close (tie.spec (λ c. search needs) (λ c. search needs) (λ c κs. search needs) (λ c. search needs) returns-2)
+    this.Tie.close
+    (this.Tie.spec (λ c. search needs) (λ c. search needs) _ (λ c. search needs)
+    (λ c. rw (c .before .before .latch .given .1) (c .is-target .ensures)))

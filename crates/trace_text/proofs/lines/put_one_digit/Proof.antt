@@ -1,16 +1,10 @@
 -- Carried by `sets-eq`: two stores, of the digit that the callee gives and of the newline.
-use Prim.Native.Nat.{_%_}
-use mathlib.Core.List.{_∷_}
-use native.Mathlib.Omega.{arith}
-use borrow.Author.Needs.{needs}
-use lib.Seq.{sets-eq}
-use Rattle.row_rules.specs.Text.{digit, newline}
-use Rattle.trace_text.proofs.lines.put_one_digit.Statement.{statement}
-use Rattle.trace_text.proofs.lines.put_one_digit.Tie as tie
+use Rattle.trace_rules.proofs.Shared.{digit, newline}
+use Rattle.unit_rules.proofs.Shared.{_%_, _∷_, arith, needs, sets-eq}
+use Rattle.trace_text.proofs.lines.put_one_digit as this
 
-returns : tie.Need-returns
-returns c = rw (c .units .ensures) (sets-eq (digit (c .before .before .args .n % 10) ∷ newline) (c .before .before .args .out .now) 0 (omega arith))
+returns : this.Tie.Need-returns
+returns c = let a = c .before .before .args in rw (c .units .ensures) (sets-eq (digit (a .n % 10) ∷ newline) (a .out .now) 0 (omega arith))
 
-pub put-one-digit-spec : {M : Type 1} → statement M
-put-one-digit-spec =
-    tie.close (tie.spec (λ c κs. search needs) (λ c. search needs) (λ c. search needs) (λ c. search needs) returns)
+pub put-one-digit-spec : {M : Type 1} → this.Statement.statement M
+put-one-digit-spec = this.Tie.close (this.Tie.spec _ (λ c. search needs) (λ c. search needs) (λ c. search needs) returns)

@@ -1,44 +1,11 @@
 -- Carried by `sets-eq`: stores one after another from the front on.
-use native.Mathlib.Omega.{arith}
-use borrow.Author.Needs.{needs}
-use lib.ListN.{length-set}
-use lib.Seq.{sets-eq}
-use Rattle.trace_text.proofs.Text.{refusedWord}
-use Rattle.trace_text.proofs.lines.put_refused_word.Statement.{statement}
-use Rattle.trace_text.proofs.lines.put_refused_word.Tie as tie
+use Rattle.unit_rules.proofs.Shared.{arith, needs, length-set, sets-eq}
+use Rattle.trace_rules.proofs.TextLengths.{refusedWord}
+use Rattle.trace_text.proofs.lines.put_refused_word as this
 
-slice-write-out-2 : tie.Need-slice-write-out-2
-slice-write-out-2 c = simp length-set (omega arith)
-
-slice-write-out-3 : tie.Need-slice-write-out-3
-slice-write-out-3 c = simp length-set (omega arith)
-
-slice-write-out-4 : tie.Need-slice-write-out-4
-slice-write-out-4 c = simp length-set (omega arith)
-
-slice-write-out-5 : tie.Need-slice-write-out-5
-slice-write-out-5 c = simp length-set (omega arith)
-
-slice-write-out-6 : tie.Need-slice-write-out-6
-slice-write-out-6 c = simp length-set (omega arith)
-
-slice-write-out-7 : tie.Need-slice-write-out-7
-slice-write-out-7 c = simp length-set (omega arith)
-
-returns : tie.Need-returns
-returns c = sets-eq refusedWord (c .args .out .now) 0 (omega arith)
-
-pub put-refused-word-spec : {M : Type 1} → statement M
+pub put-refused-word-spec : {M : Type 1} → this.Statement.statement M
 put-refused-word-spec =
-    tie.close
-    (tie.spec
-    (λ c. search needs)
-    slice-write-out-2
-    slice-write-out-3
-    slice-write-out-4
-    slice-write-out-5
-    slice-write-out-6
-    slice-write-out-7
-    (λ c. search needs)
-    (λ c. search needs)
-    returns)
+    this.Tie.close
+    (this.Tie.spec (λ c. search needs) (λ c. simp length-set (omega arith)) (λ c. simp length-set (omega arith)) (λ c. simp length-set (omega arith))
+    (λ c. simp length-set (omega arith)) (λ c. simp length-set (omega arith)) (λ c. simp length-set (omega arith)) (λ c. search needs)
+    (λ c. search needs) (λ c. sets-eq refusedWord (c .args .out .now) 0 (omega arith)))

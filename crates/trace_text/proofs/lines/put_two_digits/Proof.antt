@@ -1,30 +1,15 @@
 -- Carried by `sets-eq`: three stores, of the digits that the callees give and of the newline.
-use mathlib.Core.List.{_++_}
-use native.Mathlib.Omega.{arith}
-use borrow.Author.Needs.{needs}
-use lib.ListN.{length-set}
-use lib.Seq.{sets-eq}
-use Rattle.row_rules.specs.Text.{twoDigits, newline}
-use Rattle.trace_text.proofs.lines.put_two_digits.Statement.{statement}
-use Rattle.trace_text.proofs.lines.put_two_digits.Tie as tie
+use Rattle.trace_rules.proofs.Shared.{twoDigits, newline}
+use Rattle.unit_rules.proofs.Shared.{_++_, arith, needs, length-set, sets-eq}
+use Rattle.trace_text.proofs.lines.put_two_digits as this
 
-slice-write-out-2 : tie.Need-slice-write-out-2
-slice-write-out-2 c = simp length-set (omega arith)
-
-returns : tie.Need-returns
+returns : this.Tie.Need-returns
 unfolding twoDigits
 returns c =
     let a = c .before .before .before .args in
     rw (c .units .ensures, c .before .tens .ensures) (sets-eq (twoDigits (a .n) ++ newline) (a .out .now) 0 (omega arith))
 
-pub put-two-digits-spec : {M : Type 1} → statement M
+pub put-two-digits-spec : {M : Type 1} → this.Statement.statement M
 put-two-digits-spec =
-    tie.close
-    (tie.spec
-    (λ c κs. search needs)
-    (λ c. search needs)
-    (λ c κs. search needs)
-    slice-write-out-2
-    (λ c. search needs)
-    (λ c. search needs)
-    returns)
+    this.Tie.close
+    (this.Tie.spec _ (λ c. search needs) _ (λ c. simp length-set (omega arith)) (λ c. search needs) (λ c. search needs) returns)

@@ -1,15 +1,8 @@
 -- Carried by the lengths of the text with one digit and with two.
 use mathlib.Core.Path.{sym}
 use native.Mathlib.Omega.{arith}
-use Rattle.trace_text.proofs.Text.{refused-one-long, refused-two-long}
-use Rattle.trace_text.proofs.lines.refused_size.Statement.{statement}
-use Rattle.trace_text.proofs.lines.refused_size.Tie as tie
+use Rattle.trace_rules.proofs.TextLengths.{refused-one-long, refused-two-long}
+use Rattle.trace_text.proofs.lines.refused_size as this
 
-returns : tie.Need-returns
-returns c = sym (refused-one-long (c .before .args .number) (omega arith))
-
-returns-2 : tie.Need-returns-2
-returns-2 c = sym (refused-two-long (c .before .args .number) (omega arith))
-
-pub refused-size-spec : {M : Type 1} → statement M
-refused-size-spec = tie.close (tie.spec returns returns-2)
+pub refused-size-spec : {M : Type 1} → this.Statement.statement M
+refused-size-spec = this.Tie.close (this.Tie.spec (λ c. sym (refused-one-long _ (omega arith))) (λ c. sym (refused-two-long _ (omega arith))))

@@ -1,196 +1,61 @@
--- Carried by `turn`, `more` and `row-more`. The invariant: registers and what is carried make up the unit after the cycles made so far, and their rows are put.
-use Prim.Native.Nat.{_-_, _≤_}
-use mathlib.Core.Logic.{⊎-elim}
-use mathlib.Core.Path.{_≡_, refl, _∙_}
-use native.Mathlib.Omega.{arith}
-use borrow.Author.Needs.{needs}
-use lib.ListN.{length}
-use Rattle.buffer.proofs.Parts.{at-end}
-use Rattle.buffer.specs.Front.{atFront}
-use Rattle.unit_rules.proofs.WellMade.{well-made-says, last-small}
-use Rattle.unit_rules.specs.Cycle.{cyclesOf}
-use Rattle.trace_text.specs.Text.{rowsOf}
-use Rattle.unit_rules.specs.Stages.{unitWith}
-use Rattle.unit.proofs.Loop.{none-yet, turn, more, read-in-range, write-in-range}
-use Rattle.trace_text.proofs.Loop.{row-more}
-use Rattle.trace_text.proofs.rows.put_rows.Statement.{statement}
-use Rattle.trace_text.proofs.rows.put_rows.Tie as tie
+-- Carried by `turn`, `more` and `row-more`. The invariant: the unit is well made and has the cycles left, registers and what is carried make up
+-- the unit after the cycles made so far, and their rows are put.
+use Rattle.trace_rules.proofs.Shared.{atFront, rowSize, well-made-says, last-small, rowsOf}
+use Rattle.unit_rules.proofs.Shared.{_+_, _-_, _*_, _≤_, true, ⊎-elim, _≡_, refl, _∙_, arith, needs, length, cyclesOf, lastOf, wellMadeOf, unitWith}
+use Rattle.unit.proofs.Loop.{none-yet, turn, more, first-in-range, second-in-range, third-in-range, write-in-range}
+use Rattle.trace_text.proofs.Loop.{row-more, rows-made}
+use Rattle.trace_text.proofs.rows.put_rows as this
 
-abbrev Inv-loop : tie.InvT-loop
+abbrev Inv-loop : this.Tie.InvT-loop
 Inv-loop out₀ u m program n registers₀ carried₀ made₀ out registers carried made =
-    (unitWith u made registers carried ≡ cyclesOf made u) × (made ≤ m) × (length out ≡ length out₀) × (out ≡ atFront (rowsOf made u) out₀)
+    (wellMadeOf u ≡ true) × (u .cycle + m ≤ lastOf (u .n .0)) × (rowSize * m ≤ length out₀) × (made ≤ m) × (length out ≡ length out₀)
+    × (unitWith u made registers carried ≡ cyclesOf made u) × (out ≡ atFront (rowsOf made u) out₀)
 
-abbrev μ-loop : tie.MeasureT-loop
+abbrev μ-loop : this.Tie.MeasureT-loop
 μ-loop out₀ u m program n registers₀ carried₀ made₀ out registers carried made = m - made
 
-in-flight-requires : tie.Need-in-flight-requires Inv-loop μ-loop
-in-flight-requires c κs = search needs
-
-loop-holds : tie.Need-loop-holds Inv-loop μ-loop
-unfolding rowsOf
-loop-holds c = (none-yet _ (c .in-flight .ensures), omega arith, refl, refl)
-
-cast-start : tie.Need-cast-start Inv-loop μ-loop
-cast-start c = search needs
-
-mul-start : tie.Need-mul-start Inv-loop μ-loop
-mul-start c = search needs
-
-add-made : tie.Need-add-made Inv-loop μ-loop
-add-made c = search needs
-
-written-requires : tie.Need-written-requires Inv-loop μ-loop
-written-requires c κs = search needs
-
-cast-at : tie.Need-cast-at Inv-loop μ-loop
-cast-at c = search needs
-
-mul-registers : tie.Need-mul-registers Inv-loop μ-loop
-mul-registers c = search needs
-
-array-set-from-registers : tie.Need-array-set-from-registers Inv-loop μ-loop
-array-set-from-registers c =
-    let head = c .before .before .before .before .before in
-    let made = head .before .before .before .before .before .before .pre .0 in
-    let at = write-in-range _ made (head .loop .made) (head .loop .inv .0) (c .before .before .before .written .ensures) in
-    omega arith
-
-read-from-requires : tie.Need-read-from-requires Inv-loop μ-loop
-read-from-requires c κs = search needs
-
-cast-first : tie.Need-cast-first Inv-loop μ-loop
-cast-first c = search needs
-
-cast-second : tie.Need-cast-second Inv-loop μ-loop
-cast-second c = search needs
-
-cast-third : tie.Need-cast-third Inv-loop μ-loop
-cast-third c = search needs
-
-mul-t25 : tie.Need-mul-t25 Inv-loop μ-loop
-mul-t25 c = search needs
-
-array-copy-out-t31 : tie.Need-array-copy-out-t31 Inv-loop μ-loop
-array-copy-out-t31 c =
-    let head = c .before .before .before .before .before .before .before .before .before in
-    let made = head .before .before .before .before .before .before .pre .0 in
-    let from = read-in-range _ made (head .loop .made) (head .loop .inv .0) (c .before .before .before .read-from .ensures) in
-    omega (arith, from .0)
-
-mul-t32 : tie.Need-mul-t32 Inv-loop μ-loop
-mul-t32 c = search needs
-
-array-copy-out-t35 : tie.Need-array-copy-out-t35 Inv-loop μ-loop
-array-copy-out-t35 c =
-    let head = c .before .before .before .before .before .before .before .before .before .before in
-    let made = head .before .before .before .before .before .before .pre .0 in
-    let from = read-in-range _ made (head .loop .made) (head .loop .inv .0) (c .before .before .before .before .read-from .ensures) in
-    omega (arith, from .1)
-
-mul-t36 : tie.Need-mul-t36 Inv-loop μ-loop
-mul-t36 c = search needs
-
-array-copy-out-t39 : tie.Need-array-copy-out-t39 Inv-loop μ-loop
-array-copy-out-t39 c =
-    let head = c .before .before .before .before .before .before .before .before .before .before .before in
-    let made = head .before .before .before .before .before .before .pre .0 in
-    let from = read-in-range _ made (head .loop .made) (head .loop .inv .0) (c .before .before .before .before .before .read-from .ensures) in
-    omega (arith, from .2)
-
-cast-here : tie.Need-cast-here Inv-loop μ-loop
-cast-here c = search needs
-
-mul-advanced : tie.Need-mul-advanced Inv-loop μ-loop
-mul-advanced c = search needs
-
-array-read-advanced : tie.Need-array-read-advanced Inv-loop μ-loop
-array-read-advanced c = search needs
-
-advanced-requires : tie.Need-advanced-requires Inv-loop μ-loop
-advanced-requires c κs = search needs
-
-add-row-of-cycle : tie.Need-add-row-of-cycle Inv-loop μ-loop
+add-row-of-cycle : this.Tie.Need-add-row-of-cycle Inv-loop μ-loop
 add-row-of-cycle c =
-    let head = c .before .before .before .before .before .before .before .before .before .before .before .before .before .before .before in
-    let end = last-small _ (head .before .before .before .before .before .before .pre .0) in
-    search needs
+    let test = c .before .before .before .before .before .before .before .before .before .before .before .before .before .before in
+    let inv = test .before .loop .inv in
+    omega (arith, last-small _ (inv .0), inv .1, test .loop-test .taken)
 
-row-of-cycle-requires : tie.Need-row-of-cycle-requires Inv-loop μ-loop
-row-of-cycle-requires c κs = search needs
-
-write-row-requires : tie.Need-write-row-requires Inv-loop μ-loop
-write-row-requires c κs = search needs
-
-loop-less : tie.Need-loop-less Inv-loop μ-loop
+loop-less : this.Tie.Need-loop-less Inv-loop μ-loop
 loop-less c =
     let read = c .before .before .before .before .before .before .before .before .before .before .before .before .before .before in
-    let written = read .before .before .before .before in
-    omega (arith, written .before .loop-test .taken)
+    let test = read .before .before .before .before .before in
+    omega (arith, test .loop-test .taken)
 
-loop-again : tie.Need-loop-again Inv-loop μ-loop
+loop-again : this.Tie.Need-loop-again Inv-loop μ-loop
 loop-again c =
     let shown = c .before .before .before .before in
     let advanced = shown .before .before in
     let read = advanced .before .before .before .before .before .before .before .before in
     let written = read .before .before .before .before in
-    let head = written .before .before in
-    let entry = head .before .before .before .before .before .before in
-    let inv = head .loop .inv in
-    let few = well-made-says _ (entry .pre .0) .few in
+    let inv = written .before .before .loop .inv in
+    let next = written .before .loop-test .taken in
+    let few = well-made-says _ (inv .0) .few in
     let size = c .before .out .given in (
-      more _ _ (inv .0)
+      inv .0,
+      inv .1,
+      inv .2,
+      omega (arith, next),
+      omega (arith, inv .4, size),
+      more _ _ (inv .5)
           (turn _ few (written .written .ensures)
           (⊎-elim (λ w. w .1 ∙ rw (w .0 .taken)) (λ w. w .1 ∙ rw (w .0 .left)) (read .before .if1 .came))
           (read .read-from .ensures)
           (advanced .advanced .ensures)),
-      omega (arith, written .before .loop-test .taken),
-      omega (arith, inv .2, size),
-      row-more _ _ few (inv .0) (λ i. advanced .advanced .ensures i .fetched) (shown .row-of-cycle .ensures) _ _
-          (omega (arith, inv .2, entry .pre .2, written .before .loop-test .taken)) (inv .3) (c .before .before .write-row .ensures),
+      row-more _ _ few (inv .5) (λ i. advanced .advanced .ensures i .fetched) (shown .row-of-cycle .ensures) _ _ (omega (arith, inv .2, inv .4, next))
+          (inv .6) (c .before .before .write-row .ensures),
     )
 
-same-length : tie.Need-same-length Inv-loop μ-loop
-same-length c = search needs
-
-returns : tie.Need-returns Inv-loop μ-loop
-returns c =
-    let a = c .before .before .before .before .before .before .before .args in
-    let inv = c .before .loop .inv in
-    at-end (λ k. atFront (rowsOf k (a .u)) (a .out .now)) _ (a .m) (inv .1) (c .loop-test .left) (inv .3)
-
-pub put-rows-spec : {M : Type 1} → statement M
+pub put-rows-spec : {M : Type 1} → this.Statement.statement M
+unfolding rowsOf
 put-rows-spec =
-    tie.close
-    (tie.spec
-    Inv-loop
-    μ-loop
-    in-flight-requires
-    loop-holds
-    cast-start
-    mul-start
-    add-made
-    written-requires
-    cast-at
-    mul-registers
-    array-set-from-registers
-    read-from-requires
-    cast-first
-    cast-second
-    cast-third
-    mul-t25
-    array-copy-out-t31
-    mul-t32
-    array-copy-out-t35
-    mul-t36
-    array-copy-out-t39
-    cast-here
-    mul-advanced
-    array-read-advanced
-    advanced-requires
-    add-row-of-cycle
-    row-of-cycle-requires
-    write-row-requires
-    loop-less
-    loop-again
-    same-length
-    returns)
+    this.Tie.close
+    (this.Tie.spec Inv-loop μ-loop _ (λ c. (search needs, search needs, search needs, omega arith, refl, search none-yet, refl)) (λ c. search needs)
+    (λ c. search needs) (λ c. search needs) _ (λ c. search needs) (λ c. search needs) (λ c. search write-in-range) _ (λ c. search needs)
+    (λ c. search needs) (λ c. search needs) (λ c. search needs) (λ c. search first-in-range) (λ c. search needs) (λ c. search second-in-range)
+    (λ c. search needs) (λ c. search third-in-range) (λ c. search needs) (λ c. search needs) (λ c. search needs) _ add-row-of-cycle _ _
+    loop-less loop-again (λ c. search needs) (λ c. search rows-made))

@@ -1,10 +1,6 @@
 -- Carried by the instruction that the latch holds.
 use borrow.Author.Needs.{needs}
-use Rattle.unit_record.proofs.latches.in_executed.Statement.{statement}
-use Rattle.unit_record.proofs.latches.in_executed.Tie as tie
+use Rattle.unit_record.proofs.latches.in_executed as this
 
-returns-2 : tie.Need-returns-2
-returns-2 c = rw (c .before .latch .given .1)
-
-pub in-executed-spec : {M : Type 1} → statement M
-in-executed-spec = tie.close (tie.spec (λ c. search needs) (λ c. search needs) (λ c. search needs) returns-2)
+pub in-executed-spec : {M : Type 1} → this.Statement.statement M
+in-executed-spec = this.Tie.close (this.Tie.spec (λ c. search needs) (λ c. search needs) (λ c. search needs) (λ c. rw (c .before .latch .given .1)))

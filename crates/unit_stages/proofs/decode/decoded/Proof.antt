@@ -1,10 +1,6 @@
 -- Carried by the instruction that the latch holds.
 use borrow.Author.Needs.{needs}
-use Rattle.unit_stages.proofs.decode.decoded.Statement.{statement}
-use Rattle.unit_stages.proofs.decode.decoded.Tie as tie
+use Rattle.unit_stages.proofs.decode.decoded as this
 
-returns-2 : tie.Need-returns-2
-returns-2 c = rw (c .before .latch .given .1)
-
-pub decoded-spec : {M : Type 1} → statement M
-decoded-spec = tie.close (tie.spec (λ c. search needs) (λ c. search needs) (λ c. search needs) returns-2)
+pub decoded-spec : {M : Type 1} → this.Statement.statement M
+decoded-spec = this.Tie.close (this.Tie.spec (λ c. search needs) (λ c. search needs) (λ c. search needs) (λ c. rw (c .before .latch .given .1)))

@@ -1,13 +1,9 @@
 -- Carried by the two cases of the latch.
 use borrow.Author.Needs.{needs}
-use Rattle.unit_stages.proofs.decode.read_from.Statement.{statement}
-use Rattle.unit_stages.proofs.decode.read_from.Tie as tie
+use Rattle.unit_stages.proofs.decode.read_from as this
 
-returns : tie.Need-returns
-returns c = rw (c .enum-told .given .1)
-
-returns-2 : tie.Need-returns-2
-returns-2 c = rw (c .before .before .before .before .latch .given .1)
-
-pub read-from-spec : {M : Type 1} → statement M
-read-from-spec = tie.close (tie.spec (λ c. search needs) (λ c. search needs) returns returns-2)
+pub read-from-spec : {M : Type 1} → this.Statement.statement M
+read-from-spec =
+    this.Tie.close
+    (this.Tie.spec (λ c. search needs) (λ c. search needs) (λ c. rw (c .enum-told .given .1))
+    (λ c. rw (c .before .before .before .before .latch .given .1)))

@@ -1,12 +1,9 @@
 -- Carried by the contracts of `newest_operands` and `work`, for the instruction that the latch holds.
 use borrow.Author.Needs.{needs}
-use Rattle.unit_stages.proofs.execute.executed.Statement.{statement}
-use Rattle.unit_stages.proofs.execute.executed.Tie as tie
+use Rattle.unit_stages.proofs.execute.executed as this
 
-returns-2 : tie.Need-returns-2
-returns-2 c = rw (c .before .before .before .latch .given .1, c .work .ensures, c .before .newest-operands .ensures)
-
-pub executed-spec : {M : Type 1} → statement M
+pub executed-spec : {M : Type 1} → this.Statement.statement M
 executed-spec =
-    tie.close
-    (tie.spec (λ c. search needs) (λ c. search needs) (λ c κs. search needs) (λ c κs. search needs) (λ c. search needs) returns-2)
+    this.Tie.close
+    (this.Tie.spec (λ c. search needs) (λ c. search needs) _ _ (λ c. search needs)
+    (λ c. rw (c .before .before .before .latch .given .1, c .work .ensures, c .before .newest-operands .ensures)))

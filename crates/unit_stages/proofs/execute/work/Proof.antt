@@ -1,10 +1,5 @@
 -- Carried by the contract of `gives`.
-use borrow.Author.Needs.{needs}
-use Rattle.unit_stages.proofs.execute.work.Statement.{statement}
-use Rattle.unit_stages.proofs.execute.work.Tie as tie
+use Rattle.unit_stages.proofs.execute.work as this
 
-returns : tie.Need-returns
-returns c = rw (c .result .ensures)
-
-pub work-spec : {M : Type 1} → statement M
-work-spec = tie.close (tie.spec (λ c κs. search needs) returns)
+pub work-spec : {M : Type 1} → this.Statement.statement M
+work-spec = this.Tie.close (this.Tie.spec _ (λ c. rw (c .result .ensures)))

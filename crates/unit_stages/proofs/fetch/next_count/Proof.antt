@@ -1,15 +1,7 @@
 -- Carried by the test alone.
-use native.Mathlib.Omega.{arith}
 use borrow.Author.Needs.{needs}
 use Rattle.unit_stages.proofs.Delivered.{adds-one, count-stays}
-use Rattle.unit_stages.proofs.fetch.next_count.Statement.{statement}
-use Rattle.unit_stages.proofs.fetch.next_count.Tie as tie
+use Rattle.unit_stages.proofs.fetch.next_count as this
 
-returns : tie.Need-returns
-returns c = adds-one _ _ (omega arith)
-
-returns-2 : tie.Need-returns-2
-returns-2 c = count-stays _ _ (omega arith)
-
-pub next-count-spec : {M : Type 1} → statement M
-next-count-spec = tie.close (tie.spec (λ c. search needs) returns returns-2)
+pub next-count-spec : {M : Type 1} → this.Statement.statement M
+next-count-spec = this.Tie.close (this.Tie.spec (λ c. search needs) (λ c. search (adds-one, needs)) (λ c. search (count-stays, needs)))

@@ -1,0 +1,106 @@
+-- What is answered for a text, with room for it and without; and which text it is, by how the start came out.
+-- Assumes nothing.
+use Rattle.trace_rules.proofs.Shared.{midOf, putMid, atFront, then-front, rowSize, Unit, well-made-says, well-made-test, sound-read, started-is}
+use Rattle.trace_rules.proofs.Shared.{well-made-started, TextAnswer, rowsOf, endText, refusedText, traceText, jobText, putOf, writeTextOf}
+use Rattle.unit_rules.proofs.Shared.{ℕ, _+_, _-_, _*_, _≤_, _<_, _≡_, sym, ap, subst⁻¹, _∙_, Bool, true, false, cond, List, arith, lt-ltb, le-ltb}
+use Rattle.unit_rules.proofs.Shared.{eq-eqb, ne-eqb, leb-true, leb-false, ltb, leb, length, take, drop, length-append, length-take-le, ROOM}
+use Rattle.unit_rules.proofs.Shared.{instructionsAt, readOf, lastOf, wellMadeOf, freshOf, startOf}
+use Rattle.unit_rules.specs.declared.Started.{Started}
+use Rattle.trace_rules.proofs.TextLengths.{rows-long, trace-is, trace-long}
+
+module _ (text buffer : List ℕ) where
+  pub no-room-for : {r : TextAnswer} → r ≡ record { refusal = ROOM; size = 0 } → length buffer < length text → (r, buffer) ≡ putOf text buffer
+  unfolding putOf
+  no-room-for e h = rw (e, lt-ltb (length buffer) (length text) h)
+
+  pub text-put : {new : List ℕ} {size : ℕ} → length text ≤ length buffer → new ≡ atFront text buffer → size ≡ length text
+      → _≡_ {A = TextAnswer × List ℕ} (record { refusal = 0; size = size }, new) (putOf text buffer)
+  unfolding putOf
+  text-put h e g = rw (e, g, le-ltb (length buffer) (length text) h)
+
+  -- by the test of the room as it came out
+  module _ {size : ℕ} (counted : size ≡ length text) {t : Bool} (test : t ≡ leb (0 + size) (length buffer)) where
+    pub room-for : t ≡ true → length text ≤ length buffer
+    room-for h = omega (arith, leb-true (0 + size) (length buffer) (sym test ∙ h))
+
+    pub put-with-room : t ≡ true → {new : List ℕ} → new ≡ atFront text buffer
+        → _≡_ {A = TextAnswer × List ℕ} (record { refusal = 0; size = size }, new) (putOf text buffer)
+    put-with-room h e = text-put (room-for h) e counted
+
+    pub not-put : t ≡ false → {r : TextAnswer} → r ≡ record { refusal = ROOM; size = 0 } → (r, buffer) ≡ putOf text buffer
+    not-put h e = no-room-for e (omega (arith, leb-false (0 + size) (length buffer) (sym test ∙ h)))
+
+-- a trace: its rows, and END at the front of the part behind them
+module _ (u : Unit) (made : wellMadeOf u ≡ true) {last : ℕ} (end : last ≡ lastOf (u .n .0)) where
+  pub not-past : u .cycle ≤ last
+  not-past = let reached = well-made-says u made .reached in omega arith
+
+  pub all-left : u .cycle + (last - u .cycle) ≤ lastOf (u .n .0)
+  all-left = omega (arith, not-past)
+
+  module _ (buffer : List ℕ) {t : Bool} (test : t ≡ leb (rowSize * (last - u .cycle) + 7) (length buffer)) where
+    pub rows-fit : t ≡ true → rowSize * (last - u .cycle) ≤ length buffer
+    rows-fit h = omega (arith, leb-true (rowSize * (last - u .cycle) + 7) (length buffer) (sym test ∙ h))
+
+    pub trace-put : t ≡ true → {rows part : List ℕ} → rows ≡ atFront (rowsOf (last - u .cycle) u) buffer
+        → part ≡ atFront (endText (last - u .cycle)) (midOf (rowSize * (last - u .cycle)) (length rows - rowSize * (last - u .cycle)) rows)
+        → _≡_ {A = TextAnswer × List ℕ} (
+          record { refusal = 0; size = rowSize * (last - u .cycle) + 7 },
+          putMid (rowSize * (last - u .cycle)) (length rows - rowSize * (last - u .cycle)) rows part,
+        )
+        (putOf (traceText u) buffer)
+    trace-put h {rows = rows} {part = part} e f =
+        let k = last - u .cycle in
+        let size = trace-long u made end in
+        text-put (traceText u) buffer (omega (arith, leb-true (rowSize * k + 7) (length buffer) (sym test ∙ h)))
+        (then-front (rowSize * k) (rowsOf k u) (endText k) buffer rows part (rows-long k u) e f ∙ rw (trace-is u made end)) (sym size)
+
+    pub trace-not-put : t ≡ false → {r : TextAnswer} → r ≡ record { refusal = ROOM; size = 0 } → (r, buffer) ≡ putOf (traceText u) buffer
+    trace-not-put h e =
+        let size = trace-long u made end in
+        no-room-for (traceText u) buffer e (omega (arith, leb-false (rowSize * (last - u .cycle) + 7) (length buffer) (sym test ∙ h)))
+
+module _ (file : List ℕ) {u : Unit} {s : Started} (fresh : u ≡ freshOf) (start : s ≡ startOf file u) where
+  started : startOf file freshOf ≡ s
+  started = sym (start ∙ ap (startOf file) fresh)
+
+  pub text-refused : (s .refusal ≡ 0 → ⊥) → refusedText (s .refusal) ≡ jobText file
+  unfolding jobText
+  text-refused h = rw (started, ne-eqb (s .refusal) 0 h)
+
+  pub refused-put : (buffer : List ℕ) {x : TextAnswer × List ℕ} → (s .refusal ≡ 0 → ⊥) → x ≡ putOf (refusedText (s .refusal)) buffer
+      → x ≡ writeTextOf file buffer
+  refused-put buffer h e = rw (text-refused h) at e
+
+  module _ (accepted : s .refusal ≡ 0) where
+    pub text-accepted : traceText (s .unit) ≡ jobText file
+    unfolding jobText
+    text-accepted = rw (started, eq-eqb (s .refusal) 0 accepted)
+
+    pub accepted-put : (buffer : List ℕ) {x : TextAnswer × List ℕ} → x ≡ putOf (traceText (s .unit)) buffer → x ≡ writeTextOf file buffer
+    accepted-put buffer e = rw text-accepted at e
+
+    pub started-made : wellMadeOf (s .unit) ≡ true
+    unfolding startOf
+    started-made =
+        let e : startOf file freshOf .refusal ≡ 0 = ap (λ (x : Started). x .refusal) started ∙ accepted in
+        let unit = started-is file freshOf e in
+        rw (← started, unit) (well-made-test _ (well-made-started (readOf instructionsAt file .job) freshOf (sound-read file e)))
+
+-- the size of a text that was put counts bytes of the buffer, as a part of the buffer up to it needs
+abbrev Within : TextAnswer × List ℕ → Type 0
+Within x = x .0 .size ≤ length (x .1)
+
+put-within : (text buffer : List ℕ) → Within (putOf text buffer)
+unfolding putOf
+put-within text buffer = go (ltb (length buffer) (length text))
+  where
+    go : (short : Bool) → Within (cond short (record { refusal = ROOM; size = 0 }, buffer) (record { refusal = 0; size = length text }, atFront text buffer))
+    go true = omega arith
+    go false = omega (arith, length-append text (drop (length text) buffer))
+
+pub size-counts : (text buffer : List ℕ) {r : TextAnswer} {after : List ℕ} → (r, after) ≡ putOf text buffer
+    → (r .size ≤ length after) × (r .size ≡ length (take (r .size) after))
+size-counts text buffer {r} {after} e =
+    let within = subst⁻¹ Within e (put-within text buffer) in
+    (within, sym (length-take-le (r .size) after within))

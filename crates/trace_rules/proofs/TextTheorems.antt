@@ -1,0 +1,90 @@
+-- For the reader of specs/: how much of a file decides, how long a text is and what room it takes, what is left of the buffer, and which text is printed when.
+-- Assumes nothing.
+use Rattle.trace_rules.proofs.Shared.{atFront, twoDigits, last-small, Unit, started-is, TextAnswer, rowsOf, endText, refusedText, textFor}
+use Rattle.trace_rules.proofs.Shared.{jobText, putOf, writeTextOf, largestText, wholeTextOf, bytesToRead}
+use Rattle.unit_rules.proofs.Shared.{ℕ, _-_, _≤_, _≡_, refl, sym, ap, _∙_, Bool, true, false, List, [], _∷_, _++_, arith, ltb-true}
+use Rattle.unit_rules.proofs.Shared.{ltb-false, eqb-true, eqb-false, ltb, eqb, length, take, replicate, length-append, length-drop, length-replicate}
+use Rattle.unit_rules.proofs.Shared.{take-at, take-all, ROOM, firstBad, ReadJob, LARGEST, headerOf, testedOf, bodyOf, lastOf, freshOf, startedBy}
+use Rattle.unit_rules.proofs.Shared.{startOf}
+use Rattle.job_rules.proofs.TooLong.{first-bytes-decide}
+use Rattle.trace_rules.proofs.TextLengths.{trace-is, trace-long, refused-long}
+use Rattle.trace_rules.proofs.TextPut.{text-put, text-refused, text-accepted, started-made}
+
+-- ---- which text
+
+-- "or only a line of `REFUSED` and the number"
+pub refused-text : (file : List ℕ) → (startOf file freshOf .refusal ≡ 0 → ⊥) → jobText file ≡ refusedText (startOf file freshOf .refusal)
+refused-text file h = sym (text-refused file refl refl h)
+
+-- "prints one row a cycle and then a line of `END` and the cycle count": n + 3 rows, and none where n is 0
+pub accepted-text : (file : List ℕ) → startOf file freshOf .refusal ≡ 0
+    → jobText file ≡ rowsOf (lastOf (startOf file freshOf .unit .n .0)) (startOf file freshOf .unit) ++ endText (lastOf (startOf file freshOf .unit .n .0))
+accepted-text file h =
+    let u = startOf file freshOf .unit in
+    let none-made : u .cycle ≡ 0 = ap (λ (v : Unit). v .cycle) (started-is file freshOf h) in
+    let all : lastOf (u .n .0) - u .cycle ≡ lastOf (u .n .0) = omega arith in
+    sym (text-accepted file refl refl h) ∙ sym (trace-is u (started-made file refl refl h) refl) ∙ ap (λ (c : ℕ). rowsOf c u ++ endText c) all
+
+-- the file of eight bytes, a job with no instructions: END 00
+pub empty-job : jobText (0 ∷ 0 ∷ 0 ∷ 0 ∷ 8 ∷ 0 ∷ 8 ∷ 0 ∷ []) ≡ 69 ∷ 78 ∷ 68 ∷ 32 ∷ 48 ∷ 48 ∷ 10 ∷ []
+unfolding endText rowsOf twoDigits startOf headerOf testedOf bodyOf firstBad
+empty-job = accepted-text (0 ∷ 0 ∷ 0 ∷ 0 ∷ 8 ∷ 0 ∷ 8 ∷ 0 ∷ []) refl
+
+-- the first so many bytes of a file decide its text: a file that is too long is refused as they are
+pub first-777-bytes : (file : List ℕ) → jobText (take bytesToRead file) ≡ jobText file
+unfolding jobText startOf
+first-777-bytes file = go (ltb LARGEST (length file)) refl
+  where
+    go : (t : Bool) → ltb LARGEST (length file) ≡ t → jobText (take bytesToRead file) ≡ jobText file
+    go true q = sym (ap (λ (r : ReadJob). textFor (startedBy r freshOf)) (first-bytes-decide file (ltb-true LARGEST (length file) q)))
+    go false q = ap jobText (take-all bytesToRead file (omega (arith, ltb-false LARGEST (length file) q)))
+
+-- ---- the room that it takes
+
+pub text-size : (file : List ℕ) → length (jobText file) ≤ largestText
+text-size file = go (eqb (startOf file freshOf .refusal) 0) refl
+  where
+    go : (t : Bool) → eqb (startOf file freshOf .refusal) 0 ≡ t → length (jobText file) ≤ largestText
+    go true q =
+        let ok = eqb-true (startOf file freshOf .refusal) 0 q in
+        let made = started-made file refl refl ok in
+        let u = startOf file freshOf .unit in
+        rw (← (text-accepted file refl refl ok)) (omega (arith, trace-long u made refl, last-small u made))
+    go false q =
+        rw (refused-text file (eqb-false (startOf file freshOf .refusal) 0 q)) (omega (arith, refused-long (startOf file freshOf .refusal) .1))
+
+pub always-room : (file buffer : List ℕ) → largestText ≤ length buffer
+    → writeTextOf file buffer ≡ (record { refusal = 0; size = length (jobText file) }, atFront (jobText file) buffer)
+always-room file buffer h = sym (text-put (jobText file) buffer (omega (arith, text-size file)) refl refl)
+
+-- by value there is room for every text: its first bytes are the text, and there are as many as the largest has
+pub by-value : (file : List ℕ) {r : TextAnswer} {after : List ℕ} → (r, after) ≡ writeTextOf file (replicate largestText 0)
+    → record { bytes = after; size = r .size } ≡ wholeTextOf file
+by-value file e =
+    let put = e ∙ always-room file (replicate largestText 0) (omega (arith, length-replicate {A = ℕ} largestText 0)) in
+    λ i. record { bytes = put i .1; size = put i .0 .size }
+
+pub whole-text : (file : List ℕ) → take (wholeTextOf file .size) (wholeTextOf file .bytes) ≡ jobText file
+whole-text file = take-at (jobText file) _ _ refl
+
+pub whole-length : (file : List ℕ) → length (wholeTextOf file .bytes) ≡ largestText
+whole-length file =
+    simp (length-append, length-drop, length-replicate) (omega (arith, text-size file))
+
+module _ (file buffer : List ℕ) where
+  pub size-fits : writeTextOf file buffer .0 .size ≤ length buffer
+  unfolding putOf
+  size-fits = go (ltb (length buffer) (length (jobText file))) refl
+    where
+      go : (t : Bool) → ltb (length buffer) (length (jobText file)) ≡ t → writeTextOf file buffer .0 .size ≤ length buffer
+      go true q = rw q (omega arith)
+      go false q = rw q (ltb-false (length buffer) (length (jobText file)) q)
+
+  -- "buffers stay unaltered"
+  pub refused-unaltered : writeTextOf file buffer .0 .refusal ≡ ROOM → writeTextOf file buffer .1 ≡ buffer
+  unfolding putOf
+  refused-unaltered e = go (ltb (length buffer) (length (jobText file))) refl
+    where
+      go : (t : Bool) → ltb (length buffer) (length (jobText file)) ≡ t → writeTextOf file buffer .1 ≡ buffer
+      go true q = rw q
+      go false q = let no = rw q at e in absurd (omega arith)

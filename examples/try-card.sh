@@ -1,0 +1,533 @@
+#!/bin/sh
+# Tries the command ./card:
+#
+#     sh examples/try-card.sh           # some seconds
+#     sh examples/try-card.sh --real    # also with the kit's own rt, which may have to prove and build first: some minutes
+#
+# A line a case, `ok`, `FAILED` or `skipped`, and last a line `N passed, M failed`; the exit status is 1 where a case failed.
+#
+# It works in a copy of the repository, in a temporary folder, where a stand-in for rt is first on the path: it proves nothing, says what rt says, and
+# leaves a small script as the program. So the cases are about the command and not about proofs:
+#   what is asked    the list of verbs; an unknown verb; too many and too few files; a file that is missing, a folder, or not to be read; no rt
+#   building         the first use and how it counts; no build where only a time, a document or another crate has changed; a build where a source, a
+#                    definition, a proof, crates.txt or the kit has; one that fails, at first and after a good one; one that is broken off; a source
+#                    that is edited while it builds; two uses at once
+#   running          each exit status; both streams as the program wrote them; standard input from a file, a pipe, /dev/null, a folder; names with a
+#                    space or with a hyphen in front; from another folder; through links; several files
+# Where ./card has built the real programs, or with --real, it also runs them on the examples and compares what they print with sample.trace and
+# larger.trace.
+set -u
+
+here=$(dirname "$(dirname "$(readlink -f "$0")")")
+real=''
+case ${1-} in
+'') ;;
+--real) real=1 ;;
+*) echo 'usage: sh examples/try-card.sh [--real]' >&2; exit 2 ;;
+esac
+
+TRY=$(mktemp -d) || exit 1
+trap 'rm -rf "$TRY"' EXIT
+trap 'exit 130' INT
+trap 'exit 143' TERM
+export TRY
+own_path=$PATH
+repository="$TRY/the repository"
+mkdir -p "$repository/docs" "$TRY/kit/bin" "$TRY/elsewhere" || exit 1
+cp -R "$here/crates.txt" "$here/crates" "$here/card" "$here/examples" "$repository" || exit 1
+cd "$repository" || exit 1
+
+# ---- the stand-ins
+
+# What rt would prove for a program, found in another way than the command does: names are added until none is missing.
+crates_of() {
+    all=" $1 " before=''
+    while [ "$all" != "$before" ]; do
+        before=$all
+        for name in $all; do
+            needs=$(sed -n "s/^$name://p" crates.txt)
+            for dep in $needs; do
+                case $all in *" $dep "*) continue ;; esac
+                if grep -q "^$dep:" crates.txt; then all="$all$dep "; fi
+            done
+        done
+    done
+    # the program is proved last
+    for name in $all; do [ "$name" = "$1" ] || echo "$name"; done
+    echo "$1"
+}
+crates_of trace >"$TRY/crates.trace"
+crates_of traces >"$TRY/crates.traces"
+# a library among them, far from the program, whose sources the cases change
+TRY_LIBRARY="crates/$(tail -n 2 "$TRY/crates.trace" | head -n 1)"
+export TRY_LIBRARY
+total=$(grep -c . "$TRY/crates.trace")
+total_of_traces=$(grep -c . "$TRY/crates.traces")
+
+echo 'stand-in 1' >"$TRY/version"
+: >"$TRY/calls"
+: >"$TRY/runs"
+
+# The files fails, slow and meanwhile in the temporary folder make it fail, take its time, and edit a source while it builds.
+cat >"$TRY/kit/bin/rt" <<'END'
+#!/bin/sh
+# whoever calls it must not leave it the job to read
+cat >/dev/null
+if [ "$1" = version ]; then
+    cat "$TRY/version"
+    exit
+fi
+echo "$* in $(pwd -P)" >>"$TRY/calls"
+build=$(grep -c . "$TRY/calls")
+took='1 s'
+[ ! -d target/rlib ] || took='unchanged since it was last proved'
+mkdir -p target/bin target/rlib
+sed "s/BUILD/$build/" "$TRY/program" >"target/bin/$2"
+chmod +x "target/bin/$2"
+[ ! -f "$TRY/slow" ] || sleep 3
+while read -r crate; do
+    [ "$crate" != "$2" ] || took='1 s'
+    if [ -f "$TRY/fails" ] && [ "$crate" = "$2" ]; then
+        echo "rt: $2 proved, and its run FAILED (1 s)"
+        echo "rt: FAILED: $2"
+        exit 1
+    fi
+    echo 'logic=proved functions=0'
+    echo "rt: $crate proved ($took)"
+done <"$TRY/crates.$2"
+if [ -f "$TRY/meanwhile" ]; then
+    rm "$TRY/meanwhile"
+    echo '// edited meanwhile' >>"$TRY_LIBRARY/src/lib.rt"
+fi
+echo "rt: $2 ran, and wrote what its file 'stdout' has (0 s)"
+echo "rt: ok, $(grep -c . "$TRY/crates.$2") crates proved"
+END
+
+# Says which build it is, and then the names that it is given or its standard input; a case may have it say more, or die.
+cat >"$TRY/program" <<'END'
+#!/bin/sh
+echo run >>"$TRY/runs"
+echo 'build BUILD'
+if [ $# -gt 0 ]; then printf 'name %s\n' "$@"; else cat 2>/dev/null || echo UNREADABLE >&2; fi
+[ -z "${TRY_OUT-}" ] || printf '%s\n' "$TRY_OUT"
+[ -z "${TRY_ERR-}" ] || printf '%s\n' "$TRY_ERR" >&2
+[ -z "${TRY_DIES-}" ] || kill -s KILL $$
+END
+chmod +x "$TRY/kit/bin/rt" "$TRY/program"
+PATH="$TRY/kit/bin:$PATH"
+unset RATTLE_HOME TRY_OUT TRY_ERR TRY_DIES
+
+# ---- how a case is told
+
+lines() { grep -c . "$TRY/$1"; }
+
+passed=0 failed=0 name='' wrong=''
+begin() {
+    name=$1 wrong=''
+    built=$(lines calls)
+    ran=$(lines runs)
+}
+end() {
+    if [ -z "$wrong" ]; then
+        echo "ok $name"
+        passed=$((passed + 1))
+    else
+        echo "FAILED $name:$wrong"
+        failed=$((failed + 1))
+    fi
+}
+skip() { echo "skipped $1"; }
+not() { wrong="$wrong $*;"; }
+
+# Runs a command, and keeps its status and what it wrote.
+run() {
+    status=0
+    "$@" >"$TRY/out" 2>"$TRY/err" || status=$?
+}
+gives() { [ "$status" -eq "$1" ] || not "status $status and not $1"; }
+out_is() { printf '%b' "$1" | cmp -s - "$TRY/out" || not "standard output is not '$1' but '$(cat "$TRY/out")'"; }
+err_is() { printf '%b' "$1" | cmp -s - "$TRY/err" || not "standard error is not '$1' but '$(cat "$TRY/err")'"; }
+out_has() { grep -qF -e "$1" "$TRY/out" || not "standard output lacks '$1'"; }
+err_has() { grep -qF -e "$1" "$TRY/err" || not "standard error lacks '$1'"; }
+# Since the case began: how often rt was asked to build, and how often the program ran.
+builds() { [ $(($(lines calls) - built)) -eq "$1" ] || not "$(($(lines calls) - built)) builds and not $1"; }
+runs() { [ $(($(lines runs) - ran)) -eq "$1" ] || not "the program ran $(($(lines runs) - ran)) times and not $1"; }
+# The last build, which is what the program says first.
+newest() { echo "build $(lines calls)"; }
+
+printf 'a job\n' >"$TRY/job"
+
+# ---- what is asked
+
+begin 'the verbs are listed'
+run ./card
+gives 0; out_has './card trace [JOB]'; out_has './card traces JOB..'; err_is ''; builds 0
+end
+
+begin 'an unknown verb'
+run ./card weave "$TRY/job"
+gives 2; out_is ''; err_has weave; err_has './card trace [JOB]'; builds 0
+end
+
+begin 'too many files'
+run ./card trace "$TRY/job" "$TRY/job"
+gives 2; out_is ''; err_has 'usage: ./card trace [JOB]'; builds 0
+end
+
+begin 'too few files'
+run ./card traces
+gives 2; out_is ''; err_has 'usage: ./card traces JOB..'; builds 0
+end
+
+begin 'a missing file, said before anything is built'
+run ./card trace "$TRY/missing.job"
+gives 2; out_is ''; err_has "$TRY/missing.job"; builds 0
+end
+
+begin 'a folder as file'
+run ./card trace "$TRY/elsewhere"
+gives 2; out_is ''; err_has "$TRY/elsewhere"; builds 0
+end
+
+if [ "$(id -u)" -eq 0 ]; then
+    skip 'a file without permission: root may read any'
+else
+    begin 'a file without permission'
+    : >"$TRY/secret"
+    chmod 0 "$TRY/secret"
+    run ./card trace "$TRY/secret"
+    gives 2; out_is ''; err_has "$TRY/secret"; builds 0
+    end
+fi
+
+begin 'no rt on the path'
+mkdir "$TRY/few"
+for tool in sh dirname readlink rm; do ln -s "$(command -v "$tool")" "$TRY/few/$tool"; done
+run env PATH="$TRY/few" ./card trace "$TRY/job"
+gives 3; out_is ''; err_has 'rt is not on the path'; builds 0
+end
+
+# ---- building
+
+begin "the first use builds and counts from 1 of $total to $total of $total"
+run ./card trace "$TRY/job"
+gives 0; out_is "$(newest)\na job\n"; builds 1; runs 1
+err_has 'proving and building trace, once; this takes some minutes'
+grep -qxF "check trace in $(pwd -P)" "$TRY/calls" || not 'rt check trace was not run at the root'
+k=0
+while [ "$k" -le "$total" ]; do
+    echo "$k of $total"
+    k=$((k + 1))
+done >"$TRY/counted"
+sed -n 's/^card: .*: \([0-9]* of [0-9]*\)$/\1/p' "$TRY/err" | cmp -s - "$TRY/counted" || not 'it did not count so'
+end
+
+begin 'the second use does not build'
+run ./card trace "$TRY/job"
+gives 0; out_is "$(newest)\na job\n"; err_is ''; builds 0; runs 1
+end
+
+begin 'nor does one after a source was written again with the same content'
+cp "$TRY_LIBRARY/src/lib.rt" "$TRY/same"
+rm "$TRY_LIBRARY/src/lib.rt"
+cp "$TRY/same" "$TRY_LIBRARY/src/lib.rt"
+run ./card trace "$TRY/job"
+gives 0; builds 0; runs 1
+end
+
+begin 'nor one after a change to what is no source: a document, the file that a test reads, a file beside the sources'
+echo new >docs/NEW.md
+echo new >>crates/trace/stdout
+echo new >"$TRY_LIBRARY/notes"
+run ./card trace "$TRY/job"
+gives 0; builds 0; runs 1
+end
+
+begin 'nor one after a change to a crate that the program does not need'
+other=''
+names=$(sed -n 's/^\([a-z_]*\):.*/\1/p' crates.txt)
+for crate in $names; do
+    grep -qx "$crate" "$TRY/crates.trace" || other=$crate
+done
+for file in crates/"$other"/src/*.rt; do echo '// new' >>"$file"; done
+run ./card trace "$TRY/job"
+gives 0; builds 0; runs 1
+end
+
+begin 'a changed source builds again, and says so'
+echo '// new' >>"$TRY_LIBRARY/src/lib.rt"
+run ./card trace "$TRY/job"
+gives 0; out_is "$(newest)\na job\n"; builds 1; runs 1; err_has 'again'; err_has ": $total of $total"
+end
+
+begin 'each of a new source, definition, proof, a removed one, crates.txt and the kit builds again, once'
+for change in src specs proofs removed crates.txt kit; do
+    case $change in
+    src | specs | proofs) mkdir -p "$TRY_LIBRARY/$change"; echo new >"$TRY_LIBRARY/$change/new" ;;
+    removed) rm "$TRY_LIBRARY/src/new" ;;
+    crates.txt) echo '# new' >>crates.txt ;;
+    kit) echo 'stand-in 2' >"$TRY/version" ;;
+    esac
+    before=$(newest)
+    run ./card trace "$TRY/job"
+    gives 0
+    [ "$(newest)" != "$before" ] || not "$change does not"
+    out_is "$(newest)\na job\n"
+done
+run ./card trace "$TRY/job"
+builds 6
+end
+
+begin 'a build that fails after a good one: status 3, the log is named, nothing is run and nothing kept'
+: >"$TRY/fails"
+echo '// wrong' >>"$TRY_LIBRARY/src/lib.rt"
+run ./card trace "$TRY/job"
+gives 3; out_is ''; err_has 'could not be built'; err_has "$repository/target/card/trace.log"; builds 1; runs 0
+grep -qx 'rt: FAILED: trace' target/card/trace.log || not 'the log does not say what rt said'
+[ ! -e target/card/trace ] || not 'the program is kept'
+[ ! -e target/card/trace.stamp ] || not 'the stamp is kept'
+end
+
+begin 'the use after it tries again, though nothing has changed'
+run ./card trace "$TRY/job"
+gives 3; out_is ''; builds 1; runs 0
+end
+
+begin 'and runs once the build is good'
+rm "$TRY/fails"
+run ./card trace "$TRY/job"
+gives 0; out_is "$(newest)\na job\n"; builds 1; runs 1
+end
+
+begin 'a first build that fails, and is tried again'
+rm -r target
+: >"$TRY/fails"
+run ./card trace "$TRY/job"
+gives 3; out_is ''; builds 1; runs 0
+run ./card trace "$TRY/job"
+gives 3; out_is ''; builds 2; runs 0
+rm "$TRY/fails"
+run ./card trace "$TRY/job"
+gives 0; out_is "$(newest)\na job\n"; builds 3; runs 1
+end
+
+begin 'a source that is edited while it builds: built again before it is run, and not once more'
+: >"$TRY/meanwhile"
+echo '// before' >>"$TRY_LIBRARY/src/lib.rt"
+run ./card trace "$TRY/job"
+gives 0; out_is "$(newest)\na job\n"; builds 2; runs 1
+run ./card trace "$TRY/job"
+gives 0; builds 2; runs 2
+end
+
+begin 'UNWRITTEN on standard error gives 3'
+run env TRY_ERR=UNWRITTEN ./card trace "$TRY/job"
+gives 3; err_has UNWRITTEN; builds 0
+end
+
+begin 'a program that was removed is built again'
+rm target/card/trace
+run ./card trace "$TRY/job"
+gives 0; out_is "$(newest)\na job\n"; builds 1; runs 1
+end
+
+if command -v timeout >/dev/null; then
+    for signal in INT TERM; do
+        begin "a build that is broken off by $signal keeps nothing, and the next use builds"
+        : >"$TRY/slow"
+        echo '// slow' >>"$TRY_LIBRARY/src/lib.rt"
+        run timeout -s "$signal" 1 ./card trace "$TRY/job"
+        gives 124; out_is ''; runs 0
+        [ ! -e target/card/trace ] || not 'the program is kept'
+        [ ! -e target/card/trace.stamp ] || not 'the stamp is kept'
+        rm "$TRY/slow"
+        run ./card trace "$TRY/job"
+        gives 0; out_is "$(newest)\na job\n"; builds 2; runs 1
+        end
+    done
+else
+    skip 'a build that is broken off: there is no command timeout'
+fi
+
+begin 'two first uses at once'
+rm -r target
+: >"$TRY/slow"
+./card trace "$TRY/job" >"$TRY/out2" 2>/dev/null &
+run ./card trace "$TRY/job"
+wait "$!" || not "the other gave status $?"
+rm "$TRY/slow"
+gives 0; runs 2; out_has 'a job'
+cmp -s "$TRY/out" "$TRY/out2" || not 'they differ'
+! command -v flock >/dev/null || builds 1
+end
+
+begin 'nothing else is left in target/card, nor in the folder for temporary files'
+ls target/card >"$TRY/left"
+printf '%s\n' lock trace trace.log trace.stamp | cmp -s - "$TRY/left" || not "there is $(tr '\n' ' ' <"$TRY/left")"
+mkdir "$TRY/temporary"
+run env TMPDIR="$TRY/temporary" ./card trace "$TRY/job"
+gives 0
+[ -z "$(ls "$TRY/temporary")" ] || not 'a temporary file is left'
+end
+
+# ---- running
+
+begin 'REFUSED on standard output: status 1'
+run env TRY_OUT='REFUSED 4' ./card trace "$TRY/job"
+gives 1; out_is "$(newest)\na job\nREFUSED 4\n"; err_is ''
+end
+
+begin 'REFUSED on standard error: status 1'
+run env TRY_ERR='REFUSED 4' ./card trace "$TRY/job"
+gives 1; out_is "$(newest)\na job\n"; err_is 'REFUSED 4\n'
+end
+
+begin 'REFUSED within a line, or as a part of a name, is no refusal'
+run env TRY_OUT='not REFUSED 4' ./card trace "$TRY/job"
+gives 0
+run env TRY_OUT='REFUSED.job' ./card trace "$TRY/job"
+gives 0
+end
+
+begin 'UNREADABLE on standard error, with and without a name: status 2'
+run env TRY_ERR=UNREADABLE ./card trace "$TRY/job"
+gives 2; err_is 'UNREADABLE\n'
+run env TRY_ERR='UNREADABLE a b.job' ./card trace "$TRY/job"
+gives 2; err_is 'UNREADABLE a b.job\n'
+end
+
+begin 'UNREADABLE and REFUSED: status 2'
+run env TRY_OUT='REFUSED 1' TRY_ERR='UNREADABLE x.job' ./card trace "$TRY/job"
+gives 2; out_has 'REFUSED 1'; err_is 'UNREADABLE x.job\n'
+end
+
+begin 'a program that dies: status 3, whatever it printed'
+run env TRY_DIES=1 ./card trace "$TRY/job"
+gives 3; out_is "$(newest)\na job\n"; err_has 'did not run to its end'
+run env TRY_DIES=1 TRY_OUT='REFUSED 1' ./card trace "$TRY/job"
+gives 3
+end
+
+if [ -w /dev/full ]; then
+    begin 'standard output that is full: status 3 and not 1'
+    status=0
+    ./card trace "$TRY/job" >/dev/full 2>"$TRY/err" || status=$?
+    gives 3
+    end
+else
+    skip 'standard output that is full: there is no /dev/full'
+fi
+
+begin 'standard output and standard error come as the program wrote them'
+printf 'a\\b\t%%s\r\n\n  \001\377 no newline' >"$TRY/odd"
+run env TRY_ERR='  one\n  %s' ./card trace "$TRY/odd"
+gives 0; err_is '  one\\n  %s\n'
+{ newest; cat "$TRY/odd"; } | cmp -s - "$TRY/out" || not 'standard output was changed'
+end
+
+begin 'standard input from a file'
+run ./card trace <"$TRY/job"
+gives 0; out_is "$(newest)\na job\n"
+end
+
+begin 'standard input from a pipe'
+status=0
+printf 'piped\n' | ./card trace >"$TRY/out" 2>"$TRY/err" || status=$?
+gives 0; out_is "$(newest)\npiped\n"; err_is ''
+end
+
+begin 'standard input from /dev/null is a job of no bytes'
+run ./card trace </dev/null
+gives 0; out_is "$(newest)\n"; err_is ''
+end
+
+begin 'standard input from a folder: status 2'
+run ./card trace <"$TRY/elsewhere"
+gives 2; err_is 'UNREADABLE\n'
+end
+
+begin 'standard input is not used up by a build'
+rm -r target
+status=0
+printf 'piped\n' | ./card trace >"$TRY/out" 2>"$TRY/err" || status=$?
+gives 0; out_is "$(newest)\npiped\n"; builds 1
+end
+
+begin 'a name with a space'
+printf 'spaced\n' >"$TRY/a  job"
+run ./card trace "$TRY/a  job"
+gives 0; out_is "$(newest)\nspaced\n"
+end
+
+begin 'a name that begins with a hyphen'
+printf 'hyphened\n' >-e
+run ./card trace -e
+gives 0; out_is "$(newest)\nhyphened\n"
+rm ./-e
+end
+
+begin 'several files, by their names and in their order'
+run ./card traces "$TRY/job" 'a  b.job' -n missing.job
+gives 0; builds 1; out_is "$(newest)\nname $TRY/job\nname a  b.job\nname -n\nname missing.job\n"
+err_has "proving and building traces, once"; err_has ": $total_of_traces of $total_of_traces"
+run ./card traces one.job
+gives 0; builds 1; out_is "$(newest)\nname one.job\n"
+end
+
+begin 'from another folder, with a name that is relative to it'
+cp "$TRY/job" "$TRY/elsewhere/near"
+cd "$TRY/elsewhere" || exit 1
+run '../the repository/card' trace near
+gives 0; builds 0; out_has 'a job'; err_is ''
+end
+
+begin 'through a symbolic link, and a link to that'
+ln -s '../the repository/card' one
+ln -s "$TRY/elsewhere/one" "$TRY/two"
+run ./one trace near
+gives 0; builds 0; out_has 'a job'; err_is ''
+run "$TRY/two" trace near
+gives 0; builds 0; out_has 'a job'; err_is ''
+end
+
+begin 'by name, from the path'
+run env PATH="$repository:$PATH" card trace near
+gives 0; builds 0; out_has 'a job'; err_is ''
+end
+
+# ---- the real programs
+
+cd "$here" || exit 1
+PATH=$own_path
+for program in trace traces; do
+    if ! command -v rt >/dev/null; then
+        skip "the real $program: the kit's command rt is not on the path"
+        continue
+    elif [ -z "$real" ] && [ ! -x "target/card/$program" ]; then
+        skip "the real $program: ./card has not built it yet, and --real was not asked for"
+        continue
+    fi
+    # once with its messages shown: it may have to build, and one wants to see how far it is
+    if ! ./card "$program" examples/sample.job >/dev/null; then
+        begin "the real $program"
+        not 'it could not be built or run'
+        end
+        continue
+    fi
+    for job in sample larger; do
+        begin "the real $program on examples/$job.job"
+        if [ "$program" = trace ]; then
+            run ./card trace "examples/$job.job"
+            cp "examples/$job.trace" "$TRY/expected"
+        else
+            run ./card traces "examples/$job.job"
+            { echo "examples/$job.job"; cat "examples/$job.trace"; } >"$TRY/expected"
+        fi
+        gives 0
+        cmp -s "$TRY/expected" "$TRY/out" || not "it is not what examples/$job.trace has"
+        end
+    done
+done
+
+echo "$passed passed, $failed failed"
+[ "$failed" -eq 0 ]
