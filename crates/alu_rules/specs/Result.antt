@@ -12,6 +12,7 @@ use Rattle.table.specs.Operation.{Operation, operationOf}
 use Rattle.table.specs.Operation.Operation.{li, simal, simah, simsl, simsh, slmal, slmah, slmsl, slmsh}
 use Rattle.table.specs.Operation.Operation.{nop, shrhi, au, cntih, ahs, or, bcw, maxws, minws, mlhu, mlhcu, and, clzw, rotw, sfwu, sfhs}
 
+-- the "result" column: a row of the table a line
 unfoldable pub result : Operation → ℕ → Register → Register → Register → Register
 result li w rs1 rs2 rs3 = withHalfword (indexOf w) (immediateOf w) rs1
 result simal w rs1 rs2 rs3 = multiplied false false false rs1 rs2 rs3
@@ -39,5 +40,6 @@ result rotw w rs1 rs2 rs3 = words₂ ROTW rs1 rs2
 result sfwu w rs1 rs2 rs3 = words₂ SFWU rs1 rs2
 result sfhs w rs1 rs2 rs3 = halfwords₂ SFHS rs1 rs2
 
+-- what a word gives: the row of the instruction that it is
 unfoldable pub resultOf : ℕ → Register → Register → Register → Register
 resultOf w rs1 rs2 rs3 = result (operationOf w) w rs1 rs2 rs3

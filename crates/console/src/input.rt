@@ -1,6 +1,6 @@
 // Reading into a lent buffer, in as many pieces as it comes in.
 
-ghost use Rattle.io.specs.Counts.{Counts};
+ghost use Rattle.console.specs.Input.{CameInto};
 
 // How many bytes came, at the front of the buffer; or that the input could not be read, and then none.
 pub struct Came {
@@ -29,7 +29,7 @@ fn read_once(fd: i32, room: &mut [u8]) -> isize {
 
 // Reads until the input ends or the room is full.
 pub fn read_open(fd: i32, room: &mut [u8]) -> Came
-    ensures { λ r. ⌜ Counts (r .size) (now (room .exit)) ⌝ }
+    ensures { λ r. ⌜ CameInto r (now (room .exit)) ⌝ }
 {
     let mut size = 0;
     while size < room.len() {
@@ -54,7 +54,7 @@ pub fn read_open(fd: i32, room: &mut [u8]) -> Came
 
 // The same of the file of that name: one that cannot be opened cannot be read.
 pub fn read_named(name: &[u8], room: &mut [u8]) -> Came
-    ensures { λ r. ⌜ Counts (r .size) (now (room .exit)) ⌝ }
+    ensures { λ r. ⌜ CameInto r (now (room .exit)) ⌝ }
 {
     let fd = os::open_read(name);
     if fd < 0 {

@@ -11,6 +11,6 @@ pub use Rattle.unit_rules.proofs.WellMade.{well-made-says, last-small, well-mad
 pub use Rattle.unit_rules.proofs.Calls.{ran, sound-read, started-is, well-made-started}
 pub use Rattle.trace_rules.specs.RowOfCycle.{shownOf}
 unfoldable pub use Rattle.trace_rules.specs.RowOfCycle.{shownBy}
-pub use Rattle.trace_rules.specs.JobText.{cyclesLeft, writeTextOf, textFor, largestText, wholeTextOf, bytesToRead}
+pub use Rattle.trace_rules.specs.JobText.{mostCycles, cyclesLeft, writeTextOf, textFor, largestText, wholeTextOf, bytesToRead}
 unfoldable pub use Rattle.trace_rules.specs.JobText.{rowsOf, endText, refusedText, traceText, jobText, putOf}
 pub use Rattle.trace_rules.specs.declared.TextAnswer.{TextAnswer}

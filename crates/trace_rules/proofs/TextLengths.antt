@@ -1,7 +1,7 @@
 -- The texts in parts, and how long they are: the rows of the cycles that are left and END; the word of a line and the digits behind it.
 -- Assumes nothing.
 use Rattle.trace_rules.proofs.Shared.{midOf, putMid, atFront, then-front, digit, twoDigits, newline, rowText, rowSize, row-size, Unit}
-use Rattle.trace_rules.proofs.Shared.{well-made-says, last-small, ran, shownOf, rowsOf, endText, refusedText, cyclesLeft, traceText}
+use Rattle.trace_rules.proofs.Shared.{well-made-says, last-small, ran, shownOf, rowsOf, endText, refusedText, mostCycles, cyclesLeft, traceText}
 use Rattle.unit_rules.proofs.Shared.{ℕ, zero, suc, _+_, _-_, _*_, _%_, _≤_, _<_, _≡_, refl, ap, _∙_, Bool, true, false, List, [], _∷_, _++_, arith}
 use Rattle.unit_rules.proofs.Shared.{lt-ltb, le-ltb, ltb-true, ltb-false, ltb, length, length-append, cyclesOf, lastOf, wellMadeOf}
 use Rattle.unit_rules.specs.declared.Ran.{Ran}
@@ -20,7 +20,7 @@ end-long c = refl
 
 module _ (u : Unit) (made : wellMadeOf u ≡ true) where
   cycles-left : cyclesLeft u ≡ lastOf (u .n .0) - u .cycle
-  cycles-left = ap (λ (r : Ran). r .made) (ran u (well-made-says u made) 67) ∙ omega (arith, last-small u made)
+  cycles-left = ap (λ (r : Ran). r .made) (ran u (well-made-says u made) mostCycles) ∙ omega (arith, last-small u made)
 
   pub trace-is : {last : ℕ} → last ≡ lastOf (u .n .0) → rowsOf (last - u .cycle) u ++ endText (last - u .cycle) ≡ traceText u
   unfolding traceText

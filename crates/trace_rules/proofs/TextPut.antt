@@ -2,8 +2,8 @@
 -- Assumes nothing.
 use Rattle.trace_rules.proofs.Shared.{midOf, putMid, atFront, then-front, rowSize, Unit, well-made-says, well-made-test, sound-read, started-is}
 use Rattle.trace_rules.proofs.Shared.{well-made-started, TextAnswer, rowsOf, endText, refusedText, traceText, jobText, putOf, writeTextOf}
-use Rattle.unit_rules.proofs.Shared.{ℕ, _+_, _-_, _*_, _≤_, _<_, _≡_, sym, ap, subst⁻¹, _∙_, Bool, true, false, cond, List, arith, lt-ltb, le-ltb}
-use Rattle.unit_rules.proofs.Shared.{eq-eqb, ne-eqb, leb-true, leb-false, ltb, leb, length, take, drop, length-append, length-take-le, ROOM}
+use Rattle.unit_rules.proofs.Shared.{ℕ, _+_, _-_, _*_, _≤_, _<_, _≡_, sym, ap, _∙_, Bool, true, false, List, arith, lt-ltb, le-ltb}
+use Rattle.unit_rules.proofs.Shared.{eq-eqb, ne-eqb, leb-true, leb-false, leb, length, ROOM}
 use Rattle.unit_rules.proofs.Shared.{instructionsAt, readOf, lastOf, wellMadeOf, freshOf, startOf}
 use Rattle.unit_rules.specs.declared.Started.{Started}
 use Rattle.trace_rules.proofs.TextLengths.{rows-long, trace-is, trace-long}
@@ -86,21 +86,3 @@ module _ (file : List ℕ) {u : Unit} {s : Started} (fresh : u ≡ freshOf) (sta
         let e : startOf file freshOf .refusal ≡ 0 = ap (λ (x : Started). x .refusal) started ∙ accepted in
         let unit = started-is file freshOf e in
         rw (← started, unit) (well-made-test _ (well-made-started (readOf instructionsAt file .job) freshOf (sound-read file e)))
-
--- the size of a text that was put counts bytes of the buffer, as a part of the buffer up to it needs
-abbrev Within : TextAnswer × List ℕ → Type 0
-Within x = x .0 .size ≤ length (x .1)
-
-put-within : (text buffer : List ℕ) → Within (putOf text buffer)
-unfolding putOf
-put-within text buffer = go (ltb (length buffer) (length text))
-  where
-    go : (short : Bool) → Within (cond short (record { refusal = ROOM; size = 0 }, buffer) (record { refusal = 0; size = length text }, atFront text buffer))
-    go true = omega arith
-    go false = omega (arith, length-append text (drop (length text) buffer))
-
-pub size-counts : (text buffer : List ℕ) {r : TextAnswer} {after : List ℕ} → (r, after) ≡ putOf text buffer
-    → (r .size ≤ length after) × (r .size ≡ length (take (r .size) after))
-size-counts text buffer {r} {after} e =
-    let within = subst⁻¹ Within e (put-within text buffer) in
-    (within, sym (length-take-le (r .size) after within))

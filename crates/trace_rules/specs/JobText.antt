@@ -33,9 +33,13 @@ shortDigits k = cond (ltb k 10) (digit (k % 10) ∷ []) (twoDigits k)
 unfoldable pub refusedText : ℕ → List ℕ
 refusedText k = (82 ∷ 69 ∷ 70 ∷ 85 ∷ 83 ∷ 69 ∷ 68 ∷ []) ++ behindSpace (shortDigits k) ++ newline
 
--- the cycles until a unit is drained, "67 at most"
+-- "67 at most"
+abbrev pub mostCycles : ℕ
+mostCycles = 67
+
+-- the cycles until a unit is drained
 abbrev pub cyclesLeft : Unit → ℕ
-cyclesLeft u = ranOf u 67 .made
+cyclesLeft u = ranOf u mostCycles .made
 
 -- "prints one row a cycle and then a line of `END`"
 unfoldable pub traceText : Unit → List ℕ
@@ -67,6 +71,6 @@ largestText = 5032
 abbrev pub wholeTextOf : List ℕ → WholeText
 wholeTextOf file = record { bytes = atFront (jobText file) (replicate largestText 0); size = length (jobText file) }
 
--- so many bytes of a file decide what is printed for it: one more than an accepted file has at most
+-- so many bytes of a file decide what is printed for it: one more than an accepted file has, which is "at most 776"
 abbrev pub bytesToRead : ℕ
 bytesToRead = 777

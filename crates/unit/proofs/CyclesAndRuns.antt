@@ -26,8 +26,8 @@ module _ (u : Unit) {t : Bool} (test : t ≡ wellMadeOf u) where
       unfolding cycledOf
       no-cycle-left h = rw (made, ← drained, h)
 
-      pub a-cycle-left : s ≡ false → u .cycle + 1 ≤ lastOf (u .n .0)
-      a-cycle-left h =
+      pub a-cycle-left : s ≡ false → (m : ℕ) → m ≤ 1 → u .cycle + m ≤ lastOf (u .n .0)
+      a-cycle-left h m few =
           let more = leb-false (lastOf (u .n .0)) (u .cycle) (sym (drained-is u (well-made-says u made .placed)) ∙ sym drained ∙ h) in
           omega arith
 

@@ -1,4 +1,4 @@
--- Carried by the contract of `gives`, at the rows read as registers.
+-- Carried by the contract of `alu::result`, at the rows read as registers.
 use Rattle.plain.proofs.new_row as this
 
 returns : this.Tie.Need-returns

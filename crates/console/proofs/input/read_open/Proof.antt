@@ -1,6 +1,7 @@
 -- Carried by the room that is left: no more bytes come than it has.
 use Prim.Native.Nat.{_≤_, _-_}
 use mathlib.Core.Path.{_≡_}
+use mathlib.Core.Bool.{false≢true}
 use borrow.Author.Needs.{needs}
 use lib.ListN.{length}
 use Rattle.io.proofs.Counting.{counts}
@@ -17,4 +18,4 @@ read-open-spec =
     this.Tie.close
     (this.Tie.spec Inv-loop μ-loop (λ c. search needs) (λ c. search needs) (λ c. search needs) (λ c. search needs) _ (λ c. search needs)
     (λ c. search needs) (λ c. search needs) (λ c. search needs) (λ c. search needs) _ (λ c. search needs) (λ c. search needs) (λ c. search needs)
-    (λ c. search needs) (λ c. counts _ _ (search needs)) (λ c. search needs) (λ c. counts _ _ (search needs)))
+    (λ c. search needs) (λ c. (counts _ _ (search needs), λ e. absurd (false≢true e))) (λ c. search needs) (λ c. (counts _ _ (search needs), λ e. absurd (false≢true e))))

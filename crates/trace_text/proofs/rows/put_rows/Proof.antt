@@ -1,4 +1,4 @@
--- Carried by `turn`, `more` and `row-more`. The invariant: the unit is well made and has the cycles left, registers and what is carried make up
+-- Carried by `turn`, `more` and `row-more`. The invariant: the unit is well made and has the cycles left, registers and what is in flight make up
 -- the unit after the cycles made so far, and their rows are put.
 use Rattle.trace_rules.proofs.Shared.{atFront, rowSize, well-made-says, last-small, rowsOf}
 use Rattle.unit_rules.proofs.Shared.{_+_, _-_, _*_, _≤_, true, ⊎-elim, _≡_, refl, _∙_, arith, needs, length, cyclesOf, lastOf, wellMadeOf, unitWith}
@@ -7,12 +7,12 @@ use Rattle.trace_text.proofs.Loop.{row-more, rows-made}
 use Rattle.trace_text.proofs.rows.put_rows as this
 
 abbrev Inv-loop : this.Tie.InvT-loop
-Inv-loop out₀ u m program n registers₀ carried₀ made₀ out registers carried made =
+Inv-loop out₀ u m program n registers₀ flight₀ made₀ out registers flight made =
     (wellMadeOf u ≡ true) × (u .cycle + m ≤ lastOf (u .n .0)) × (rowSize * m ≤ length out₀) × (made ≤ m) × (length out ≡ length out₀)
-    × (unitWith u made registers carried ≡ cyclesOf made u) × (out ≡ atFront (rowsOf made u) out₀)
+    × (unitWith u made registers flight ≡ cyclesOf made u) × (out ≡ atFront (rowsOf made u) out₀)
 
 abbrev μ-loop : this.Tie.MeasureT-loop
-μ-loop out₀ u m program n registers₀ carried₀ made₀ out registers carried made = m - made
+μ-loop out₀ u m program n registers₀ flight₀ made₀ out registers flight made = m - made
 
 add-row-of-cycle : this.Tie.Need-add-row-of-cycle Inv-loop μ-loop
 add-row-of-cycle c =

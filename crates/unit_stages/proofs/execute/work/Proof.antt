@@ -1,4 +1,4 @@
--- Carried by the contract of `gives`.
+-- Carried by the contract of `alu::result`.
 use Rattle.unit_stages.proofs.execute.work as this
 
 pub work-spec : {M : Type 1} → this.Statement.statement M
