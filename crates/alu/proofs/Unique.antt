@@ -1,7 +1,8 @@
--- For every public function: no second answer fits its contract, since the contract is one equation.
+-- For every public function: it asks nothing and no second answer fits, since its contract is one equation and has no `requires`.
 -- Assumes nothing.
-use mathlib.Core.Path.{refl, sym, _∙_}
+use mathlib.Core.Path.{refl}
 use Rattle.determined.specs.Determined.{Determined}
+use Rattle.determined.proofs.OneEquation.{by-value, no-requires}
 use Rattle.alu.proofs.multiply.multiply.Kinds as multiply-kinds
 use Rattle.alu.proofs.multiply.multiply.Reads as multiply-reads
 use Rattle.alu.proofs.halfwords.shift_right.Kinds as shift-right-kinds
@@ -37,53 +38,56 @@ use Rattle.alu.proofs.words.subtract_from.Reads as subtract-from-reads
 use Rattle.alu.proofs.result.Kinds as result-kinds
 use Rattle.alu.proofs.result.Reads as result-reads
 
-pub multiply-unique : Determined 0 multiply-kinds.ps multiply-kinds.r multiply-reads.Post
-multiply-unique κs a x y v w p q = (p ∙ sym q, refl)
+pub multiply-unique : Determined 0 multiply-kinds.ps multiply-kinds.r multiply-reads.requires multiply-reads.Post
+multiply-unique = by-value (λ κs a. no-requires) (λ κs a v w. refl)
 
-pub shift-right-unique : Determined 0 shift-right-kinds.ps shift-right-kinds.r shift-right-reads.Post
-shift-right-unique κs a x y v w p q = (p ∙ sym q, refl)
+pub shift-right-unique : Determined 0 shift-right-kinds.ps shift-right-kinds.r shift-right-reads.requires shift-right-reads.Post
+shift-right-unique = by-value (λ κs a. no-requires) (λ κs a v w. refl)
 
-pub ones-unique : Determined 0 ones-kinds.ps ones-kinds.r ones-reads.Post
-ones-unique κs a x y v w p q = (p ∙ sym q, refl)
+pub ones-unique : Determined 0 ones-kinds.ps ones-kinds.r ones-reads.requires ones-reads.Post
+ones-unique = by-value (λ κs a. no-requires) (λ κs a v w. refl)
 
-pub add-clamped-unique : Determined 0 add-clamped-kinds.ps add-clamped-kinds.r add-clamped-reads.Post
-add-clamped-unique κs a x y v w p q = (p ∙ sym q, refl)
+pub add-clamped-unique : Determined 0 add-clamped-kinds.ps add-clamped-kinds.r add-clamped-reads.requires add-clamped-reads.Post
+add-clamped-unique = by-value (λ κs a. no-requires) (λ κs a v w. refl)
 
-pub subtract-from-clamped-unique : Determined 0 subtract-from-clamped-kinds.ps subtract-from-clamped-kinds.r subtract-from-clamped-reads.Post
-subtract-from-clamped-unique κs a x y v w p q = (p ∙ sym q, refl)
+pub subtract-from-clamped-unique :
+    Determined 0 subtract-from-clamped-kinds.ps subtract-from-clamped-kinds.r subtract-from-clamped-reads.requires subtract-from-clamped-reads.Post
+subtract-from-clamped-unique = by-value (λ κs a. no-requires) (λ κs a v w. refl)
 
-pub add-unique : Determined 0 add-kinds.ps add-kinds.r add-reads.Post
-add-unique κs a x y v w p q = (p ∙ sym q, refl)
+pub add-unique : Determined 0 add-kinds.ps add-kinds.r add-reads.requires add-reads.Post
+add-unique = by-value (λ κs a. no-requires) (λ κs a v w. refl)
 
-pub or-unique : Determined 0 or-kinds.ps or-kinds.r or-reads.Post
-or-unique κs a x y v w p q = (p ∙ sym q, refl)
+pub or-unique : Determined 0 or-kinds.ps or-kinds.r or-reads.requires or-reads.Post
+or-unique = by-value (λ κs a. no-requires) (λ κs a v w. refl)
 
-pub broadcast-unique : Determined 0 broadcast-kinds.ps broadcast-kinds.r broadcast-reads.Post
-broadcast-unique κs a x y v w p q = (p ∙ sym q, refl)
+pub broadcast-unique : Determined 0 broadcast-kinds.ps broadcast-kinds.r broadcast-reads.requires broadcast-reads.Post
+broadcast-unique = by-value (λ κs a. no-requires) (λ κs a v w. refl)
 
-pub larger-unique : Determined 0 larger-kinds.ps larger-kinds.r larger-reads.Post
-larger-unique κs a x y v w p q = (p ∙ sym q, refl)
+pub larger-unique : Determined 0 larger-kinds.ps larger-kinds.r larger-reads.requires larger-reads.Post
+larger-unique = by-value (λ κs a. no-requires) (λ κs a v w. refl)
 
-pub smaller-unique : Determined 0 smaller-kinds.ps smaller-kinds.r smaller-reads.Post
-smaller-unique κs a x y v w p q = (p ∙ sym q, refl)
+pub smaller-unique : Determined 0 smaller-kinds.ps smaller-kinds.r smaller-reads.requires smaller-reads.Post
+smaller-unique = by-value (λ κs a. no-requires) (λ κs a v w. refl)
 
-pub multiply-low-halves-unique : Determined 0 multiply-low-halves-kinds.ps multiply-low-halves-kinds.r multiply-low-halves-reads.Post
-multiply-low-halves-unique κs a x y v w p q = (p ∙ sym q, refl)
+pub multiply-low-halves-unique :
+    Determined 0 multiply-low-halves-kinds.ps multiply-low-halves-kinds.r multiply-low-halves-reads.requires multiply-low-halves-reads.Post
+multiply-low-halves-unique = by-value (λ κs a. no-requires) (λ κs a v w. refl)
 
-pub multiply-low-halves-by-unique : Determined 0 multiply-low-halves-by-kinds.ps multiply-low-halves-by-kinds.r multiply-low-halves-by-reads.Post
-multiply-low-halves-by-unique κs a x y v w p q = (p ∙ sym q, refl)
+pub multiply-low-halves-by-unique :
+    Determined 0 multiply-low-halves-by-kinds.ps multiply-low-halves-by-kinds.r multiply-low-halves-by-reads.requires multiply-low-halves-by-reads.Post
+multiply-low-halves-by-unique = by-value (λ κs a. no-requires) (λ κs a v w. refl)
 
-pub and-unique : Determined 0 and-kinds.ps and-kinds.r and-reads.Post
-and-unique κs a x y v w p q = (p ∙ sym q, refl)
+pub and-unique : Determined 0 and-kinds.ps and-kinds.r and-reads.requires and-reads.Post
+and-unique = by-value (λ κs a. no-requires) (λ κs a v w. refl)
 
-pub leading-zeros-unique : Determined 0 leading-zeros-kinds.ps leading-zeros-kinds.r leading-zeros-reads.Post
-leading-zeros-unique κs a x y v w p q = (p ∙ sym q, refl)
+pub leading-zeros-unique : Determined 0 leading-zeros-kinds.ps leading-zeros-kinds.r leading-zeros-reads.requires leading-zeros-reads.Post
+leading-zeros-unique = by-value (λ κs a. no-requires) (λ κs a v w. refl)
 
-pub rotate-right-unique : Determined 0 rotate-right-kinds.ps rotate-right-kinds.r rotate-right-reads.Post
-rotate-right-unique κs a x y v w p q = (p ∙ sym q, refl)
+pub rotate-right-unique : Determined 0 rotate-right-kinds.ps rotate-right-kinds.r rotate-right-reads.requires rotate-right-reads.Post
+rotate-right-unique = by-value (λ κs a. no-requires) (λ κs a v w. refl)
 
-pub subtract-from-unique : Determined 0 subtract-from-kinds.ps subtract-from-kinds.r subtract-from-reads.Post
-subtract-from-unique κs a x y v w p q = (p ∙ sym q, refl)
+pub subtract-from-unique : Determined 0 subtract-from-kinds.ps subtract-from-kinds.r subtract-from-reads.requires subtract-from-reads.Post
+subtract-from-unique = by-value (λ κs a. no-requires) (λ κs a v w. refl)
 
-pub result-unique : Determined 0 result-kinds.ps result-kinds.r result-reads.Post
-result-unique κs a x y v w p q = (p ∙ sym q, refl)
+pub result-unique : Determined 0 result-kinds.ps result-kinds.r result-reads.requires result-reads.Post
+result-unique = by-value (λ κs a. no-requires) (λ κs a v w. refl)

@@ -6,13 +6,14 @@ ghost use Rattle.register.specs.Layout.{zeroRegister};
 ghost use Rattle.table.specs.Fields.{codeOf};
 ghost use Rattle.table.specs.Operation.{shortRows};
 ghost use Rattle.table.specs.Operation.Operation.{nop};
-ghost use Rattle.alu_rules.specs.Result.{result, resultOf};
+ghost use Rattle.alu_rules.specs.Result.{result, outcomeOf};
 
 pub mod halfwords;
 pub mod multiply;
 pub mod words;
 
 use crate::multiply::multiply;
+use alu_rules::Outcome;
 use register::Register;
 use table::fields::code;
 use table::fields::constant;
@@ -50,14 +51,20 @@ fn short_result(w: u32, rs1: Register, rs2: Register) -> Register
 }
 
 // The result of a word. An operand that the table says is not read has no effect.
-pub fn result(w: u32, rs1: Register, rs2: Register, rs3: Register) -> Register
-    ensures { λ r. ⌜ r ≡ resultOf w rs1 rs2 rs3 ⌝ }
+pub fn result(w: u32, rs1: Register, rs2: Register, rs3: Register) -> Outcome
+    ensures { λ r. ⌜ r ≡ outcomeOf w rs1 rs2 rs3 ⌝ }
 {
     if is_li(w) {
-        return rs1.with_halfword(index(w), immediate(w));
+        return Outcome {
+            value: rs1.with_halfword(index(w), immediate(w)),
+        };
     }
     if is_multiply(w) {
-        return multiply(is_long(w), is_subtract(w), is_high(w), rs1, rs2, rs3);
+        return Outcome {
+            value: multiply(is_long(w), is_subtract(w), is_high(w), rs1, rs2, rs3),
+        };
     }
-    short_result(w, rs1, rs2)
+    Outcome {
+        value: short_result(w, rs1, rs2),
+    }
 }

@@ -5,27 +5,14 @@ use mathlib.Core.Path.{_≡_, refl, sym, ap, ap₂, _∙_}
 use mathlib.Core.Bool.{Bool, true, false, not, Bool·beq}
 use native.Mathlib.Omega.{arith}
 use native.Mathlib.Nat.{mul-zero, zero-mul}
-use borrow.Author.Tests.{lt-ltb, le-ltb, ltb-true, ltb-false}
+use borrow.Author.Tests.{lt-ltb, le-ltb}
 use lib.Dec.{ltb}
 use lib.IntN.{ℤ, pos, negsuc, negℤ, negℤ-negℤ, subℕ, _+ℤ_, _-ℤ_, _*ℤ_}
 use lib.Signed.{ltZ}
+use Rattle.alu_rules.proofs.Integers.{either, sub-pos, sub-neg}
 use Rattle.alu_lanes.specs.Sign.{withSign}
 
--- a is below b, or it is not
-pub either : (a b : ℕ) {P : Type 0} → (a < b → P) → (b ≤ a → P) → P
-either a b {P} below above = go (ltb a b) refl
-  where
-    go : (t : Bool) → ltb a b ≡ t → P
-    go true e = below (ltb-true a b e)
-    go false e = above (ltb-false a b e)
-
--- ---- a difference
-
-pub sub-pos : (a b : ℕ) → b ≤ a → subℕ a b ≡ pos (a - b)
-sub-pos a b h = rw (le-ltb a b h)
-
-pub sub-neg : (a b : ℕ) → a < b → subℕ a b ≡ negsuc (b - suc a)
-sub-neg a b h = rw (lt-ltb a b h)
+-- ---- sums of differences
 
 pub sub-same : (a b c d : ℕ) → a + d ≡ c + b → subℕ a b ≡ subℕ c d
 sub-same a b c d e =
@@ -45,14 +32,6 @@ sub-minus a b (suc c) =
     either a b
     (λ h. ap (λ (z : ℤ). z +ℤ negsuc c) (sub-neg a b h) ∙ ap negsuc (omega arith) ∙ sym (sub-neg a (b + suc c) (omega arith)))
     (λ h. ap (λ (z : ℤ). z +ℤ negsuc c) (sub-pos a b h) ∙ sub-same (a - b) (suc c) a (b + suc c) (omega arith))
-
-pub pos-minus : (a b : ℕ) → pos a -ℤ pos b ≡ subℕ a b
-pos-minus a zero = ap pos (omega arith) ∙ sym (sub-pos a 0 (omega arith))
-pos-minus a (suc b) = refl
-
-pub neg-pos : (n : ℕ) → 0 < n → negℤ (pos n) ≡ negsuc (n - 1)
-neg-pos zero h = absurd (omega arith)
-neg-pos (suc n) h = ap negsuc (omega arith)
 
 -- ---- the order of two differences from one number
 

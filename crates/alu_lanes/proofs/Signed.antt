@@ -1,44 +1,21 @@
 -- Signed numbers, once over the width k. With its top bit turned, x is the natural number that the signed number plus H = 2^(k-1) is. So the
 -- signed number is `subℕ (turned k x) H`, a sum stays such a difference, and the clamp is the test whether its first part is in 0 .. 2^k - 1.
 -- Assumes nothing.
-use Prim.Native.Nat.{ℕ, zero, suc, _+_, _-_, _*_, _%_, _^_, _≤_, _<_}
+use Prim.Native.Nat.{ℕ, _+_, _-_, _*_, _%_, _^_, _≤_, _<_}
 use mathlib.Core.Path.{_≡_, sym, ap, ap₂, _∙_}
 use mathlib.Core.Bool.{Bool, true, false}
 use native.Mathlib.Omega.{arith}
-use native.Mathlib.Nat.{pow-suc}
 use borrow.Author.Tests.{lt-ltb, le-ltb}
 use lib.Bits.{bitXor, xor-block, xor-lt, xor-zero-r}
 use lib.Dec.{ltb, lit<}
 use lib.IntN.{ℤ, pos, negsuc, subℕ, _+ℤ_, _-ℤ_}
 use lib.Pow.{pow-pos, pow-mono, shl-exact}
 use lib.Signed.{ltZ}
-use Rattle.alu_rules.specs.Width.{signed, bits, least, greatest, within, clamped}
+use Rattle.alu_rules.specs.Width.{signed, bits, clamped}
 use Rattle.alu_lanes.specs.Sign.{withSign, turned, raised}
-use Rattle.alu_lanes.proofs.Integers.{either, sub-pos, sub-neg, sub-same, sub-plus, sub-minus, pos-minus, neg-pos, sub-order}
-
--- ---- the clamp between -(t + 1) and t
-
-pub inside-pos : (t n : ℕ) → n ≤ t → within (negsuc t) (pos t) (pos n) ≡ pos n
-unfolding within
-inside-pos t n h = rw (le-ltb t n h)
-
-pub above : (t n : ℕ) → t < n → within (negsuc t) (pos t) (pos n) ≡ pos t
-unfolding within
-above t n h = rw (lt-ltb t n h)
-
-pub inside-neg : (t n : ℕ) → n ≤ t → within (negsuc t) (pos t) (negsuc n) ≡ negsuc n
-unfolding within
-inside-neg t n h = rw (le-ltb t n h)
-
-pub beneath : (t n : ℕ) → t < n → within (negsuc t) (pos t) (negsuc n) ≡ negsuc t
-unfolding within
-beneath t n h = rw (lt-ltb t n h)
-
-pub double : (k : ℕ) → 0 < k → 2 ^ k ≡ 2 ^ (k - 1) + 2 ^ (k - 1)
-double zero h = absurd (omega arith)
-double (suc k) h =
-    let e : suc k - 1 ≡ k = omega arith in
-    rw e (omega (arith, pow-suc 2 k))
+use Rattle.alu_rules.proofs.Integers.{either, sub-pos, sub-neg, neg-pos}
+use Rattle.alu_rules.proofs.Clamped.{double, bounds, signed-low, signed-high, inside-pos, inside-neg, above, beneath}
+use Rattle.alu_lanes.proofs.Integers.{sub-same, sub-plus, sub-minus, sub-order}
 
 module _ (k : ℕ) (some : 0 < k) where
   -- ---- the top bit turned
@@ -64,14 +41,6 @@ module _ (k : ℕ) (some : 0 < k) where
       let d = double k some in
       either x (2 ^ (k - 1)) (λ h. omega (arith, turned-low x h)) (λ h. omega (arith, turned-high x h l))
 
-  pub signed-low : (x : ℕ) → x < 2 ^ (k - 1) → signed k x ≡ pos x
-  unfolding signed
-  signed-low x h = rw (lt-ltb _ _ h)
-
-  pub signed-high : (x : ℕ) → 2 ^ (k - 1) ≤ x → signed k x ≡ subℕ x (2 ^ k)
-  unfolding signed
-  signed-high x h = rw (le-ltb _ _ h) (pos-minus x (2 ^ k))
-
   -- t is what the code has for the top bit
   pub turned-by : (x : ℕ) {t : ℕ} → t ≡ 2 ^ (k - 1) → x < 2 ^ k → (bitXor x t ≡ turned k x) × (bitXor x t < 2 ^ k)
   unfolding turned
@@ -84,13 +53,10 @@ module _ (k : ℕ) (some : 0 < k) where
   signed-turned x l =
       let d = double k some in
       either x (2 ^ (k - 1))
-      (λ h. let e = turned-low x h in signed-low x h ∙ ap pos (omega arith) ∙ sym (sub-pos (turned k x) _ (omega arith)))
-      (λ h. let e = turned-high x h l in signed-high x h ∙ sub-same x (2 ^ k) (turned k x) _ (omega arith))
+      (λ h. let e = turned-low x h in signed-low k some x h ∙ ap pos (omega arith) ∙ sym (sub-pos (turned k x) _ (omega arith)))
+      (λ h. let e = turned-high x h l in signed-high k some x h ∙ sub-same x (2 ^ k) (turned k x) _ (omega arith))
 
   -- ---- the bits of a clamped difference v - H: v turned back, all ones turned, none turned
-
-  pub bounds : (z : ℤ) → within (least k) (greatest k) z ≡ within (negsuc (2 ^ (k - 1) - 1)) (pos (2 ^ (k - 1) - 1)) z
-  bounds z = ap (λ (l : ℤ). within l (greatest k) z) (neg-pos (2 ^ (k - 1)) (pow-pos (k - 1)))
 
   fits : (v : ℕ) → v < 2 ^ k → clamped k (subℕ v (2 ^ (k - 1))) ≡ turned k v
   unfolding bits
@@ -98,15 +64,15 @@ module _ (k : ℕ) (some : 0 < k) where
       let d = double k some in
       let q = pow-pos (k - 1) in
       either v (2 ^ (k - 1))
-      (λ h. ap (clamped k) (sub-neg v _ h) ∙ ap (bits k) (bounds _ ∙ inside-neg _ _ (omega arith)) ∙ omega (arith, turned-low v h))
-      (λ h. ap (clamped k) (sub-pos v _ h) ∙ ap (bits k) (bounds _ ∙ inside-pos _ _ (omega arith)) ∙ sym (turned-high v h l))
+      (λ h. ap (clamped k) (sub-neg v _ h) ∙ ap (bits k) (bounds k some _ ∙ inside-neg _ _ (omega arith)) ∙ omega (arith, turned-low v h))
+      (λ h. ap (clamped k) (sub-pos v _ h) ∙ ap (bits k) (bounds k some _ ∙ inside-pos _ _ (omega arith)) ∙ sym (turned-high v h l))
 
   over : (v : ℕ) → 2 ^ k ≤ v → clamped k (subℕ v (2 ^ (k - 1))) ≡ turned k (2 ^ k - 1)
   unfolding bits
   over v h =
       let d = double k some in
       let q = pow-pos (k - 1) in
-      ap (clamped k) (sub-pos v _ (omega arith)) ∙ ap (bits k) (bounds _ ∙ above _ _ (omega arith))
+      ap (clamped k) (sub-pos v _ (omega arith)) ∙ ap (bits k) (bounds k some _ ∙ above _ _ (omega arith))
       ∙ omega (arith, turned-high (2 ^ k - 1) (omega arith) (omega arith))
 
   under : (u m : ℕ) → u < m → clamped k (subℕ u (2 ^ (k - 1) + m)) ≡ turned k 0
@@ -114,17 +80,17 @@ module _ (k : ℕ) (some : 0 < k) where
   under u m h =
       let d = double k some in
       let q = pow-pos (k - 1) in
-      ap (clamped k) (sub-neg u _ (omega arith)) ∙ ap (bits k) (bounds _ ∙ beneath _ _ (omega arith)) ∙ omega (arith, turned-low 0 q)
+      ap (clamped k) (sub-neg u _ (omega arith)) ∙ ap (bits k) (bounds k some _ ∙ beneath _ _ (omega arith)) ∙ omega (arith, turned-low 0 q)
 
   -- ---- a sign and a size; t is what the code has for the top bit
 
   pub size-low : (x : ℕ) {t : ℕ} → t ≡ 2 ^ (k - 1) → x < t → (withSign false x ≡ signed k x) × (x ≤ 2 ^ (k - 1))
-  size-low x e h = (sym (signed-low x (omega arith)), omega arith)
+  size-low x e h = (sym (signed-low k some x (omega arith)), omega arith)
 
   pub size-high : (x : ℕ) {t : ℕ} → t ≡ 2 ^ (k - 1) → t ≤ x → x < 2 ^ k → (withSign true (t - (x - t)) ≡ signed k x) × (t - (x - t) ≤ 2 ^ (k - 1))
   size-high x {t} e h l =
       let d = double k some in
-      (neg-pos (t - (x - t)) (omega arith) ∙ ap negsuc (omega arith) ∙ sym (signed-high x (omega arith) ∙ sub-neg x _ l), omega arith)
+      (neg-pos (t - (x - t)) (omega arith) ∙ ap negsuc (omega arith) ∙ sym (signed-high k some x (omega arith) ∙ sub-neg x _ l), omega arith)
 
   pub size-lt : (j : ℕ) {m : ℕ} → k ≤ j → m ≤ 2 ^ (k - 1) → m < 2 ^ j
   size-lt j h l =

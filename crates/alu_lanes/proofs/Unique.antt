@@ -1,7 +1,8 @@
--- For every public function: no second answer fits its contract, since the contract is one equation.
+-- For every public function: it asks nothing and no second answer fits, since its contract is one equation and has no `requires`.
 -- Assumes nothing.
-use mathlib.Core.Path.{refl, sym, _∙_}
+use mathlib.Core.Path.{refl}
 use Rattle.determined.specs.Determined.{Determined}
+use Rattle.determined.proofs.OneEquation.{by-value, no-requires}
 use Rattle.alu_lanes.proofs.wrapped.add.Kinds as add-kinds
 use Rattle.alu_lanes.proofs.wrapped.add.Reads as add-reads
 use Rattle.alu_lanes.proofs.wrapped.subtract_from.Kinds as subtract-from-kinds
@@ -39,56 +40,63 @@ use Rattle.alu_lanes.proofs.ordered.larger.Reads as larger-reads
 use Rattle.alu_lanes.proofs.ordered.smaller.Kinds as smaller-kinds
 use Rattle.alu_lanes.proofs.ordered.smaller.Reads as smaller-reads
 
-pub add-unique : Determined 0 add-kinds.ps add-kinds.r add-reads.Post
-add-unique κs a x y v w p q = (p ∙ sym q, refl)
+pub add-unique : Determined 0 add-kinds.ps add-kinds.r add-reads.requires add-reads.Post
+add-unique = by-value (λ κs a. no-requires) (λ κs a v w. refl)
 
-pub subtract-from-unique : Determined 0 subtract-from-kinds.ps subtract-from-kinds.r subtract-from-reads.Post
-subtract-from-unique κs a x y v w p q = (p ∙ sym q, refl)
+pub subtract-from-unique : Determined 0 subtract-from-kinds.ps subtract-from-kinds.r subtract-from-reads.requires subtract-from-reads.Post
+subtract-from-unique = by-value (λ κs a. no-requires) (λ κs a v w. refl)
 
-pub ones-in-halfwords-unique : Determined 0 ones-in-halfwords-kinds.ps ones-in-halfwords-kinds.r ones-in-halfwords-reads.Post
-ones-in-halfwords-unique κs a x y v w p q = (p ∙ sym q, refl)
+pub ones-in-halfwords-unique :
+    Determined 0 ones-in-halfwords-kinds.ps ones-in-halfwords-kinds.r ones-in-halfwords-reads.requires ones-in-halfwords-reads.Post
+ones-in-halfwords-unique = by-value (λ κs a. no-requires) (λ κs a v w. refl)
 
-pub leading-zeros-unique : Determined 0 leading-zeros-kinds.ps leading-zeros-kinds.r leading-zeros-reads.Post
-leading-zeros-unique κs a x y v w p q = (p ∙ sym q, refl)
+pub leading-zeros-unique : Determined 0 leading-zeros-kinds.ps leading-zeros-kinds.r leading-zeros-reads.requires leading-zeros-reads.Post
+leading-zeros-unique = by-value (λ κs a. no-requires) (λ κs a v w. refl)
 
-pub shift-halfwords-right-unique : Determined 0 shift-halfwords-right-kinds.ps shift-halfwords-right-kinds.r shift-halfwords-right-reads.Post
-shift-halfwords-right-unique κs a x y v w p q = (p ∙ sym q, refl)
+pub shift-halfwords-right-unique :
+    Determined 0 shift-halfwords-right-kinds.ps shift-halfwords-right-kinds.r shift-halfwords-right-reads.requires shift-halfwords-right-reads.Post
+shift-halfwords-right-unique = by-value (λ κs a. no-requires) (λ κs a v w. refl)
 
-pub rotate-right-unique : Determined 0 rotate-right-kinds.ps rotate-right-kinds.r rotate-right-reads.Post
-rotate-right-unique κs a x y v w p q = (p ∙ sym q, refl)
+pub rotate-right-unique : Determined 0 rotate-right-kinds.ps rotate-right-kinds.r rotate-right-reads.requires rotate-right-reads.Post
+rotate-right-unique = by-value (λ κs a. no-requires) (λ κs a v w. refl)
 
-pub multiply-low-halves-unique : Determined 0 multiply-low-halves-kinds.ps multiply-low-halves-kinds.r multiply-low-halves-reads.Post
-multiply-low-halves-unique κs a x y v w p q = (p ∙ sym q, refl)
+pub multiply-low-halves-unique :
+    Determined 0 multiply-low-halves-kinds.ps multiply-low-halves-kinds.r multiply-low-halves-reads.requires multiply-low-halves-reads.Post
+multiply-low-halves-unique = by-value (λ κs a. no-requires) (λ κs a v w. refl)
 
-pub multiply-low-half-by-unique : Determined 0 multiply-low-half-by-kinds.ps multiply-low-half-by-kinds.r multiply-low-half-by-reads.Post
-multiply-low-half-by-unique κs a x y v w p q = (p ∙ sym q, refl)
+pub multiply-low-half-by-unique :
+    Determined 0 multiply-low-half-by-kinds.ps multiply-low-half-by-kinds.r multiply-low-half-by-reads.requires multiply-low-half-by-reads.Post
+multiply-low-half-by-unique = by-value (λ κs a. no-requires) (λ κs a v w. refl)
 
-pub or-unique : Determined 0 or-kinds.ps or-kinds.r or-reads.Post
-or-unique κs a x y v w p q = (p ∙ sym q, refl)
+pub or-unique : Determined 0 or-kinds.ps or-kinds.r or-reads.requires or-reads.Post
+or-unique = by-value (λ κs a. no-requires) (λ κs a v w. refl)
 
-pub and-unique : Determined 0 and-kinds.ps and-kinds.r and-reads.Post
-and-unique κs a x y v w p q = (p ∙ sym q, refl)
+pub and-unique : Determined 0 and-kinds.ps and-kinds.r and-reads.requires and-reads.Post
+and-unique = by-value (λ κs a. no-requires) (λ κs a v w. refl)
 
-pub multiply-add-16-unique : Determined 0 multiply-add-16-kinds.ps multiply-add-16-kinds.r multiply-add-16-reads.Post
-multiply-add-16-unique κs a x y v w p q = (p ∙ sym q, refl)
+pub multiply-add-16-unique : Determined 0 multiply-add-16-kinds.ps multiply-add-16-kinds.r multiply-add-16-reads.requires multiply-add-16-reads.Post
+multiply-add-16-unique = by-value (λ κs a. no-requires) (λ κs a v w. refl)
 
-pub multiply-subtract-16-unique : Determined 0 multiply-subtract-16-kinds.ps multiply-subtract-16-kinds.r multiply-subtract-16-reads.Post
-multiply-subtract-16-unique κs a x y v w p q = (p ∙ sym q, refl)
+pub multiply-subtract-16-unique :
+    Determined 0 multiply-subtract-16-kinds.ps multiply-subtract-16-kinds.r multiply-subtract-16-reads.requires multiply-subtract-16-reads.Post
+multiply-subtract-16-unique = by-value (λ κs a. no-requires) (λ κs a v w. refl)
 
-pub multiply-add-32-unique : Determined 0 multiply-add-32-kinds.ps multiply-add-32-kinds.r multiply-add-32-reads.Post
-multiply-add-32-unique κs a x y v w p q = (p ∙ sym q, refl)
+pub multiply-add-32-unique : Determined 0 multiply-add-32-kinds.ps multiply-add-32-kinds.r multiply-add-32-reads.requires multiply-add-32-reads.Post
+multiply-add-32-unique = by-value (λ κs a. no-requires) (λ κs a v w. refl)
 
-pub multiply-subtract-32-unique : Determined 0 multiply-subtract-32-kinds.ps multiply-subtract-32-kinds.r multiply-subtract-32-reads.Post
-multiply-subtract-32-unique κs a x y v w p q = (p ∙ sym q, refl)
+pub multiply-subtract-32-unique :
+    Determined 0 multiply-subtract-32-kinds.ps multiply-subtract-32-kinds.r multiply-subtract-32-reads.requires multiply-subtract-32-reads.Post
+multiply-subtract-32-unique = by-value (λ κs a. no-requires) (λ κs a v w. refl)
 
-pub add-clamped-unique : Determined 0 add-clamped-kinds.ps add-clamped-kinds.r add-clamped-reads.Post
-add-clamped-unique κs a x y v w p q = (p ∙ sym q, refl)
+pub add-clamped-unique : Determined 0 add-clamped-kinds.ps add-clamped-kinds.r add-clamped-reads.requires add-clamped-reads.Post
+add-clamped-unique = by-value (λ κs a. no-requires) (λ κs a v w. refl)
 
-pub subtract-from-clamped-unique : Determined 0 subtract-from-clamped-kinds.ps subtract-from-clamped-kinds.r subtract-from-clamped-reads.Post
-subtract-from-clamped-unique κs a x y v w p q = (p ∙ sym q, refl)
+pub subtract-from-clamped-unique :
+    Determined 0 subtract-from-clamped-kinds.ps subtract-from-clamped-kinds.r subtract-from-clamped-reads.requires subtract-from-clamped-reads.Post
+subtract-from-clamped-unique = by-value (λ κs a. no-requires) (λ κs a v w. refl)
 
-pub larger-unique : Determined 0 larger-kinds.ps larger-kinds.r larger-reads.Post
-larger-unique κs a x y v w p q = (p ∙ sym q, refl)
+pub larger-unique : Determined 0 larger-kinds.ps larger-kinds.r larger-reads.requires larger-reads.Post
+larger-unique = by-value (λ κs a. no-requires) (λ κs a v w. refl)
 
-pub smaller-unique : Determined 0 smaller-kinds.ps smaller-kinds.r smaller-reads.Post
-smaller-unique κs a x y v w p q = (p ∙ sym q, refl)
+pub smaller-unique : Determined 0 smaller-kinds.ps smaller-kinds.r smaller-reads.requires smaller-reads.Post
+smaller-unique = by-value (λ κs a. no-requires) (λ κs a v w. refl)

@@ -1,14 +1,14 @@
 -- The laws of unsigned numbers, once over the width k: moved bits fit; ones are counted; bits are rotated.
 -- Assumes nothing.
 use Prim.Native.Nat.{ℕ, zero, suc, _+_, _-_, _*_, _/_, _%_, _^_, _<_, _≤_}
-use mathlib.Core.Path.{_≡_, sym, ap, _∙_, subst}
+use mathlib.Core.Path.{_≡_, sym, ap, _∙_}
 use native.Mathlib.Omega.{arith}
 use native.Mathlib.Nat.{lt-of-le-of-lt, pow-suc, add-mul, mul-assoc, add-assoc, mod-lt, mul-comm}
-use lib.Arith.{digits-lt}
 use lib.Count.{ones, onesIn, ones-step}
-use lib.Pow.{pow-pos, pow-add, split, high, low, shl-lt, shr-le, shr-lt}
+use lib.Pow.{pow-pos, pow-add, split, high, low, shl-lt, shr-le}
 use Rattle.register.specs.Halves.{join}
 use Rattle.alu_rules.specs.Width.{rotatedRight}
+use Rattle.alu_rules.proofs.Bits.{rotated-lt}
 
 -- a number of k bits moved right has k bits, also as the high half of k + k
 pub moved-lt : (k n : ℕ) {x : ℕ} → x < 2 ^ k → x / 2 ^ n < 2 ^ k
@@ -43,8 +43,7 @@ rotated-by-copies k x n h l =
     let f : m * p ≡ 2 ^ k = mul-comm m p ∙ sym e in
     let d : x ≡ q * m + r = sym (split x n) in
     let b : r < m = mod-lt x (pow-pos n) in
-    let c : q < p = shr-lt (k - n) n (subst (λ (j : ℕ). x < 2 ^ j) t l) in
     let s : join k x x ≡ (x * p + q) * m + r = ap (λ (y : ℕ). x * y + x) e ∙ copies x q r m p d in
     let u : x * p + q ≡ q * 2 ^ k + (r * p + q) = crossing x q r m p d ∙ ap (λ (y : ℕ). q * y + (r * p + q)) f in
     ap (λ (y : ℕ). y / m % 2 ^ k) s ∙ ap (λ (y : ℕ). y % 2 ^ k) (high (x * p + q) n b ∙ u)
-    ∙ low q k (subst (λ (y : ℕ). r * p + q < y) f (digits-lt b c))
+    ∙ low q k (rotated-lt k n x h l)

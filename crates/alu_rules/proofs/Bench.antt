@@ -8,7 +8,7 @@ use lib.Count.{leadingZeros}
 use Rattle.alu_rules.specs.Width.{signed, bits, within}
 use Rattle.register.specs.declared.Register.{Register}
 use Rattle.table.specs.Operation.{operationOf}
-use Rattle.alu_rules.specs.Result.{result, resultOf}
+use Rattle.alu_rules.specs.Result.{result, outcomeOf}
 
 pub record Line : Type 0 where
   pub word : ℕ
@@ -66,6 +66,6 @@ bench =
     ∷ line (short 9 0) (words 0xFFFF) (words 0xFFFF) (words 0) (words 0xFFFE0001)
     ∷ []
 
-pub bench-holds : map (λ (l : Line). resultOf (l .word) (l .rs1) (l .rs2) (l .rs3)) bench ≡ map (λ (l : Line). l .expected) bench
-unfolding resultOf result operationOf signed bits within leadingZeros
+pub bench-holds : map (λ (l : Line). outcomeOf (l .word) (l .rs1) (l .rs2) (l .rs3) .value) bench ≡ map (λ (l : Line). l .expected) bench
+unfolding outcomeOf result operationOf signed bits within leadingZeros
 bench-holds = refl

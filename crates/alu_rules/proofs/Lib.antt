@@ -1,3 +1,9 @@
+pub mod Integers
+pub mod Clamped
+pub mod Bits
+pub mod Across
+pub mod Operations
+pub mod EachLane
 pub mod Bench
 pub mod Rows
 pub mod Theorems

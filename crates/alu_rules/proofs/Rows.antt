@@ -13,7 +13,8 @@ use Rattle.table.specs.Operation.{Operation, operationOf, multiplyRow, shortRow
 use Rattle.table.specs.Operation.Operation.{li, simal, simah, simsl, simsh, slmal, slmah, slmsl, slmsh}
 use Rattle.table.specs.Operation.Operation.{nop, shrhi, au, cntih, ahs, or, bcw, maxws, minws, mlhu, mlhcu, and, clzw, rotw, sfwu, sfhs}
 use Rattle.table.proofs.Rows.{each-choice, all-alike, li-word, multiply-word, short-word}
-use Rattle.alu_rules.specs.Result.{result, resultOf}
+use Rattle.alu_rules.specs.declared.Outcome.{Outcome}
+use Rattle.alu_rules.specs.Result.{result, outcomeOf}
 
 -- ---- the rows
 
@@ -56,11 +57,14 @@ gated rotw w a b c = refl
 gated sfwu w a b c = refl
 gated sfhs w a b c = refl
 
--- an operand that the table says is not read has no effect on the result
-pub result-gated : (w : ℕ) (a b c : Register)
-    → (let r = readsOf (operationOf w) in resultOf w a b c ≡ resultOf w (gate (takesFirst r) a) (gate (takesSecond r) b) (gate (takesThird r) c))
-unfolding resultOf
-result-gated w a b c = gated (operationOf w) w a b c
+abbrev outcome : Register → Outcome
+outcome v = record { value = v }
+
+-- an operand that the table says is not read has no effect on the outcome
+pub outcome-gated : (w : ℕ) (a b c : Register)
+    → (let r = readsOf (operationOf w) in outcomeOf w a b c ≡ outcomeOf w (gate (takesFirst r) a) (gate (takesSecond r) b) (gate (takesThird r) c))
+unfolding outcomeOf
+outcome-gated w a b c = ap outcome (gated (operationOf w) w a b c)
 
 -- no short code reads a third operand: one test over the sixteen
 no-third : (k : ℕ) → takesThird (readsOf (getD shortRows k nop)) ≡ false
@@ -86,23 +90,25 @@ short-row w k a b e f g = g ∙ ap (λ (n : ℕ). result (getD shortRows n nop) 
 
 module _ (w : ℕ) {l : Bool} (is-li : l ≡ isLi w) where
   module _ (yes : l ≡ true) where
-    pub li-result : (a b c : Register) {i v : ℕ} {r : Register} → i ≡ indexOf w → v ≡ immediateOf w → r ≡ withHalfword i v a → r ≡ resultOf w a b c
-    unfolding resultOf result
-    li-result a b c e f g = g ∙ ap₂ (λ (i v : ℕ). withHalfword i v a) e f ∙ sym (ap (λ (o : Operation). result o w a b c) (li-word w is-li yes))
+    pub li-result : (a b c : Register) {i v : ℕ} {r : Register} → i ≡ indexOf w → v ≡ immediateOf w → r ≡ withHalfword i v a → outcome r ≡ outcomeOf w a b c
+    unfolding outcomeOf result
+    li-result a b c e f g =
+        ap outcome (g ∙ ap₂ (λ (i v : ℕ). withHalfword i v a) e f ∙ sym (ap (λ (o : Operation). result o w a b c) (li-word w is-li yes)))
 
   module _ {m : Bool} (other : l ≡ false) (is-multiply : m ≡ isMultiply w) where
     module _ (yes : m ≡ true) where
       pub multiply-result : (a b c : Register) {x y z : Bool} {r : Register} → x ≡ isLong w → y ≡ isSubtract w → z ≡ isHigh w
-          → r ≡ multiplied x y z a b c → r ≡ resultOf w a b c
-      unfolding resultOf
+          → r ≡ multiplied x y z a b c → outcome r ≡ outcomeOf w a b c
+      unfolding outcomeOf
       multiply-result a b c e f g h =
-          h ∙ (λ i. multiplied (e i) (f i) (g i) a b c) ∙ sym (row-multiplies w a b c (isLong w) (isSubtract w) (isHigh w))
-          ∙ sym (ap (λ (o : Operation). result o w a b c) (multiply-word w is-li other is-multiply yes))
+          ap outcome (h ∙ (λ i. multiplied (e i) (f i) (g i) a b c) ∙ sym (row-multiplies w a b c (isLong w) (isSubtract w) (isHigh w))
+          ∙ sym (ap (λ (o : Operation). result o w a b c) (multiply-word w is-li other is-multiply yes)))
 
     module _ (no : m ≡ false) where
-      pub short-result : (a b c : Register) {r : Register} → r ≡ result (getD shortRows (codeOf w) nop) w a b zeroRegister → r ≡ resultOf w a b c
-      unfolding resultOf
-      short-result a b c e = e ∙ short-third (codeOf w) w a b zeroRegister c ∙ sym (ap (λ (o : Operation). result o w a b c) (short-word w is-li other is-multiply no))
+      pub short-result : (a b c : Register) {r : Register} → r ≡ result (getD shortRows (codeOf w) nop) w a b zeroRegister → outcome r ≡ outcomeOf w a b c
+      unfolding outcomeOf
+      short-result a b c e =
+          ap outcome (e ∙ short-third (codeOf w) w a b zeroRegister c ∙ sym (ap (λ (o : Operation). result o w a b c) (short-word w is-li other is-multiply no)))
 
 -- a code below 16 that is none of 0 to 14 is 15. `Others c k`: c is none of 0 to k - 1
 abbrev pub Others : ℕ → ℕ → Type 0

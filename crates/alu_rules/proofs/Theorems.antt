@@ -2,7 +2,7 @@
 -- instruction, take the same operands, and write the same value to the same register.
 -- Assumes nothing.
 use Prim.Native.Nat.{ℕ}
-use mathlib.Core.Path.{_≡_, refl, sym, _∙_}
+use mathlib.Core.Path.{_≡_, refl, sym, ap, _∙_}
 use mathlib.Core.Bool.{false}
 use mathlib.Core.List.{[], _∷_, map}
 use native.Mathlib.Omega.{arith}
@@ -12,7 +12,7 @@ use Rattle.register.specs.Layout.{zeroRegister, rowOf}
 use Rattle.table.specs.Fields.{bitsOf, isLi, isMultiply, rs2Of, codeOf, constantOf, firstOf}
 use Rattle.table.specs.Operation.{Operation, operationOf, shortRows, targetOf}
 use Rattle.table.specs.Operation.Operation.{nop, bcw}
-use Rattle.alu_rules.specs.Result.{result, resultOf}
+use Rattle.alu_rules.specs.Result.{result, outcomeOf}
 use Rattle.alu_rules.proofs.Rows.{short-result}
 
 pub broadcast : (w : ℕ) (rs1 rs2 rs3 : Register) {word : ℕ} → getD (rowOf rs1) 3 0 ≡ word → rowOf (result bcw w rs1 rs2 rs3) ≡ word ∷ word ∷ word ∷ word ∷ []
@@ -47,10 +47,12 @@ module _ (w v : ℕ) (w-no-li : isLi w ≡ false) (w-short : isMultiply w ≡ fa
       let rd : bitsOf 4 0 w ≡ bitsOf 4 0 v = omega (arith, alike) in
       rw (w-no-li, w-short, v-no-li, v-short, same-code, rd)
 
-  pub same-result : (a b c d : Register) → resultOf w a b c ≡ resultOf v a b d
+  pub same-result : (a b c d : Register) → outcomeOf w a b c ≡ outcomeOf v a b d
   unfolding result
   same-result a b c d =
       let at : (x : ℕ) (k : ℕ) → getD (map (λ (o : Operation). result o x a b zeroRegister) shortRows) k (result nop x a b zeroRegister)
       ≡ result (getD shortRows k nop) x a b zeroRegister = λ x k. List·getD-map (λ (o : Operation). result o x a b zeroRegister) shortRows k nop in
-      sym (short-result w refl w-no-li refl w-short a b c refl) ∙ sym (at w (codeOf w))
-      ∙ (λ i. getD (rows-alike a b i) (same-code i) zeroRegister) ∙ at v (codeOf v) ∙ short-result v refl v-no-li refl v-short a b d refl
+      sym (short-result w refl w-no-li refl w-short a b c refl)
+      ∙ ap (λ (x : Register). record { value = x })
+      (sym (at w (codeOf w)) ∙ (λ i. getD (rows-alike a b i) (same-code i) zeroRegister) ∙ at v (codeOf v))
+      ∙ short-result v refl v-no-li refl v-short a b d refl

@@ -3,6 +3,7 @@
 -- Assumes nothing.
 use Prim.Native.Nat.{ℕ}
 use mathlib.Core.Bool.{true, false}
+use Rattle.alu_rules.specs.declared.Outcome.{Outcome}
 use Rattle.alu_rules.specs.Lane.{SHRHI, AU, CNTIH, AHS, OR, MAXWS, MINWS, MLHU, MLHCU, AND, CLZW, ROTW, SFWU, SFHS}
 use Rattle.register.specs.declared.Register.{Register}
 use Rattle.register.specs.Layout.{zeroRegister, withHalfword}
@@ -41,5 +42,5 @@ result sfwu w rs1 rs2 rs3 = words₂ SFWU rs1 rs2
 result sfhs w rs1 rs2 rs3 = halfwords₂ SFHS rs1 rs2
 
 -- what a word gives: the row of the instruction that it is
-unfoldable pub resultOf : ℕ → Register → Register → Register → Register
-resultOf w rs1 rs2 rs3 = result (operationOf w) w rs1 rs2 rs3
+unfoldable pub outcomeOf : ℕ → Register → Register → Register → Outcome
+outcomeOf w rs1 rs2 rs3 = record { value = result (operationOf w) w rs1 rs2 rs3 }

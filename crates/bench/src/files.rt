@@ -16,7 +16,12 @@ const FILL: u8 = 0xEE;
 fn print_answers(file: &[u8]) {
     let read = job_reader::read_job(file);
     form(texts::READ, read.refusal as usize, read.place, 0);
-    form(texts::READ_COUNTS, read.job.n.0 as usize, read.job.r, 0);
+    form(
+        texts::READ_COUNTS,
+        read.job.program.n.0 as usize,
+        read.job.r,
+        0,
+    );
     units::print_start(units::sample_after(2), file);
 }
 

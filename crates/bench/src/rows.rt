@@ -7,6 +7,7 @@ use crate::texts;
 use crate::texts::form;
 use crate::texts::text;
 use crate::units;
+use alu_rules::Outcome;
 use register::Register;
 use row_rules::Change;
 use row_rules::Flags;
@@ -22,7 +23,9 @@ const FILL: u8 = b'.';
 pub(crate) const LARGEST_START: usize = 0xFFFF_FFFF_FFFF_FFFF;
 
 fn full_row() -> Row {
-    let value = Register::ZERO;
+    let outcome = Outcome {
+        value: Register::ZERO,
+    };
     Row {
         cycle: 67,
         fetch: Stage::Holds(0x1FF_FFFF),
@@ -34,7 +37,7 @@ fn full_row() -> Row {
             rs2: false,
             rs3: true,
         },
-        change: Change::To(Pointer(31), value),
+        change: Change::To(Pointer(31), outcome),
     }
 }
 
@@ -56,7 +59,7 @@ pub(crate) fn print_cycle(u: Unit, room: usize, start: usize)
     let cycled = trace_row::cycle_with_row(u, &mut buffer[0..room], start);
     form(texts::CYCLE_WITH_ROW, room, start, cycled.refusal as usize);
     print::altered(&buffer, FILL);
-    print::unit(cycled.unit.n.0, cycled.unit.cycle);
+    print::unit(cycled.unit.program.n.0, cycled.unit.cycle);
 }
 
 fn print_rows() {

@@ -6,6 +6,7 @@ use crate::rows::LARGEST_START;
 use crate::texts;
 use crate::texts::form;
 use crate::texts::text;
+use job_rules::Program;
 use register::Register;
 use table::Count;
 use unit_rules::ExWb;
@@ -41,7 +42,7 @@ const LARGEST_NUMBER: usize = 0xFFFF_FFFF_FFFF_FFFF;
 pub(crate) fn print_start(u: Unit, file: &[u8]) {
     let started = unit::start(u, file);
     form(texts::START, started.refusal as usize, started.place, 0);
-    print::unit(started.unit.n.0, started.unit.cycle);
+    print::unit(started.unit.program.n.0, started.unit.cycle);
 }
 
 fn started(file: &[u8]) -> Unit {
@@ -87,7 +88,7 @@ fn print_run(u: Unit, budget: u32) -> Unit {
         ran.refusal as usize,
         ran.made as usize,
     );
-    print::unit(ran.unit.n.0, ran.unit.cycle);
+    print::unit(ran.unit.program.n.0, ran.unit.cycle);
     ran.unit
 }
 
@@ -104,7 +105,7 @@ fn print_runs(mut u: Unit) {
 fn print_cycle(u: Unit) {
     let cycled = unit::cycle(u);
     form(texts::CYCLE, cycled.refusal as usize, 0, 0);
-    print::unit(cycled.unit.n.0, cycled.unit.cycle);
+    print::unit(cycled.unit.program.n.0, cycled.unit.cycle);
 }
 
 fn print_drained(u: Unit) {
@@ -135,12 +136,12 @@ fn print_calls(title: usize, u: Unit) {
 
 // A fresh unit but for these: its lines, its count, its cycle number, the word in line 0 and the latch IF/ID.
 fn unit_with(n: u8, count: u8, cycle: u32, word: u32, fetched: IfId) -> Unit {
-    let mut program = [0u32; 64];
-    program[0] = word;
+    let mut words = [0u32; 64];
+    words[0] = word;
+    let program = Program { words, n: Count(n) };
     let registers = [Register::ZERO; 32];
     Unit {
         program,
-        n: Count(n),
         count: Count(count),
         cycle,
         registers,

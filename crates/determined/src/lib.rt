@@ -1,1 +1,1 @@
-// What "no second answer fits" means, for every contract of the project: specs/Determined.antt. There is no code.
+// What "asks nothing" and "no second answer fits" mean, for every contract of the project: specs/Determined.antt. There is no code.

@@ -1,14 +1,15 @@
--- For every public function: no second answer fits its contract, since the contract is one equation.
+-- For every public function: it asks nothing and no second answer fits, since its contract is one equation and has no `requires`.
 -- Assumes nothing.
-use mathlib.Core.Path.{refl, sym, _∙_}
+use mathlib.Core.Path.{refl}
 use Rattle.determined.specs.Determined.{Determined}
+use Rattle.determined.proofs.OneEquation.{by-value, no-requires}
 use Rattle.job_reader.proofs.header.read_header.Kinds as read-header-kinds
 use Rattle.job_reader.proofs.header.read_header.Reads as read-header-reads
 use Rattle.job_reader.proofs.read_job.Kinds as read-job-kinds
 use Rattle.job_reader.proofs.read_job.Reads as read-job-reads
 
-pub read-header-unique : Determined 1 read-header-kinds.ps read-header-kinds.r read-header-reads.Post
-read-header-unique κs a x y v w p q = (p ∙ sym q, refl)
+pub read-header-unique : Determined 1 read-header-kinds.ps read-header-kinds.r read-header-reads.requires read-header-reads.Post
+read-header-unique = by-value (λ κs a. no-requires) (λ κs a v w. refl)
 
-pub read-job-unique : Determined 1 read-job-kinds.ps read-job-kinds.r read-job-reads.Post
-read-job-unique κs a x y v w p q = (p ∙ sym q, refl)
+pub read-job-unique : Determined 1 read-job-kinds.ps read-job-kinds.r read-job-reads.requires read-job-reads.Post
+read-job-unique = by-value (λ κs a. no-requires) (λ κs a v w. refl)

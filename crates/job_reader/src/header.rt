@@ -4,7 +4,7 @@ ghost use Prim.Native.Nat.{_+_, _≤_};
 ghost use mathlib.Core.Path.{_≡_};
 ghost use lib.ListN.{length};
 ghost use Rattle.job_rules.specs.Layout.{instructionsAt, LARGEST, twoOfBytes, twoAt};
-ghost use Rattle.job_rules.specs.Read.{testedOf, headerOf};
+ghost use Rattle.job_rules.specs.Read.{headerOf};
 use job_rules::Header;
 use job_rules::INSTRUCTIONS_AT;
 use table::Count;
@@ -23,10 +23,17 @@ fn two_at(l: &[u8], at: usize) -> usize
     two_of_bytes(l[at], l[at + 1])
 }
 
-fn tested(at: usize, n: usize, r: usize, first: usize, second: usize, size: usize) -> Header
+fn header_at(l: &[u8], at: usize) -> Header
     requires { ⌜ at ≤ LARGEST ⌝ }
-    ensures { λ h. ⌜ h ≡ testedOf at n r first second size ⌝ }
+    ensures { λ h. ⌜ h ≡ headerOf at (now (l .entry)) ⌝ }
 {
+    if l.len() < 8 {
+        return Header::Refused(refusal::SHORT);
+    }
+    let n = two_at(l, 0);
+    let r = two_at(l, 2);
+    let first = two_at(l, 4);
+    let second = two_at(l, 6);
     if n > 64 {
         return Header::Refused(refusal::COUNT);
     }
@@ -39,27 +46,10 @@ fn tested(at: usize, n: usize, r: usize, first: usize, second: usize, size: usiz
     if second != at + 4 * n {
         return Header::Refused(refusal::PLACE);
     }
-    if size != at + 4 * n + 16 * r {
+    if l.len() != at + 4 * n + 16 * r {
         return Header::Refused(refusal::LENGTH);
     }
     Header::Counts(Count(n as u8), r)
-}
-
-fn header_at(l: &[u8], at: usize) -> Header
-    requires { ⌜ at ≤ LARGEST ⌝ }
-    ensures { λ h. ⌜ h ≡ headerOf at (now (l .entry)) ⌝ }
-{
-    if l.len() < 8 {
-        return Header::Refused(refusal::SHORT);
-    }
-    tested(
-        at,
-        two_at(l, 0),
-        two_at(l, 2),
-        two_at(l, 4),
-        two_at(l, 6),
-        l.len(),
-    )
 }
 
 // The header of a file: how many words and registers follow, or the refusal, 1 to 5.

@@ -16,6 +16,7 @@ use crate::numbers::word_at;
 use job_rules::Header;
 use job_rules::INSTRUCTIONS_AT;
 use job_rules::Job;
+use job_rules::Program;
 use job_rules::ReadJob;
 use register::Register;
 use table::Count;
@@ -64,9 +65,9 @@ fn refused(number: u32, place: usize) -> ReadJob
     let zero = Register::ZERO;
     let words = [0u32; 64];
     let registers = [zero; 32];
+    let program = Program { words, n: Count(0) };
     let job = Job {
-        words,
-        n: Count(0),
+        program,
         registers,
         r: 0,
     };
@@ -88,9 +89,9 @@ fn read_body(l: &[u8], at: usize, n: Count, r: usize) -> ReadJob
         return refused(refusal::WORD, bad);
     }
     let registers = read_registers(l, at + 4 * lines, r);
+    let program = Program { words, n };
     let job = Job {
-        words,
-        n,
+        program,
         registers,
         r,
     };

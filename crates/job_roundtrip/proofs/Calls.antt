@@ -13,7 +13,8 @@ use Rattle.job_rules.specs.declared.ReadJob.{ReadJob}
 use Rattle.job_rules.specs.declared.Written.{Written}
 use Rattle.job_rules.specs.Layout.{Bytes, instructionsAt, registerCount, registersOf}
 use Rattle.job_rules.specs.Read.{jobOf, acceptedOf, readOf}
-use Rattle.job_rules.specs.Write.{writtenOf, writeOf, programOf, registerBytesOf}
+use Rattle.job_rules.specs.Program.{linesOf}
+use Rattle.job_rules.specs.Write.{writtenOf, writeOf, registerBytesOf}
 use Rattle.job_rules.proofs.Theorems as reader
 use Rattle.job_reader.proofs.read_job.Kinds as read-kinds
 use Rattle.job_reader.proofs.read_job.Reads as read-reads
@@ -69,12 +70,13 @@ read-written w r e f =
 
 -- Writing what was read from an accepted file gives the same bytes, and leaves those beyond them. A file lent as `&[u8]` has bytes below 2^8.
 pub written-read : (r : Reading) (w : Writing) → r .answer .refusal ≡ 0 → Bytes (file r)
-    → words w ≡ programOf (r .answer .job) → bytes w ≡ registerBytesOf (r .answer .job) → length (file r) ≤ length (before w)
+    → words w ≡ linesOf (r .answer .job .program) → bytes w ≡ registerBytesOf (r .answer .job) → length (file r) ≤ length (before w)
     → (w .answer ≡ writtenOf 0 0 (length (file r))) × (after w ≡ atFront (file r) (before w))
 written-read r w e b f g room =
     let is = read-is r in
     let again : _≡_ {A = Written × List ℕ} (w .answer, after w) (writtenOf 0 0 (length (file r)), atFront (file r) (before w))
     = write-is w
-    ∙ (λ i. writeOf instructionsAt ((f ∙ ap (λ (v : ReadJob). programOf (v .job)) is) i) ((g ∙ ap (λ (v : ReadJob). registerBytesOf (v .job)) is) i) (before w))
+    ∙ (λ i. writeOf instructionsAt ((f ∙ ap (λ (v : ReadJob). linesOf (v .job .program)) is) i)
+    ((g ∙ ap (λ (v : ReadJob). registerBytesOf (v .job)) is) i) (before w))
     ∙ reader.written-read (file r) (before w) b (sym (ap (λ (v : ReadJob). v .refusal) is) ∙ e) room in
     (ap (λ (x : Written × List ℕ). x .0) again, ap (λ (x : Written × List ℕ). x .1) again)

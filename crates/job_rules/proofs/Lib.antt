@@ -4,4 +4,5 @@ pub mod Pieces
 pub mod Refusals
 pub mod RoundTrip
 pub mod TooLong
+pub mod Zeros
 pub mod Theorems

@@ -3,8 +3,9 @@
 -- Assumes nothing.
 use Rattle.job_rules.proofs.Shared.{ℕ, zero, suc, _+_, _-_, _*_, _≤_, _<_, _≡_, refl, sym, ap, _∙_, List, [], _∷_, _++_, flatMap, append-assoc}
 use Rattle.job_rules.proofs.Shared.{append-nil, add-assoc, add-zero, arith, length, getD, take, drop, set, replicate, length-append}
-use Rattle.job_rules.proofs.Shared.{length-drop, set-at, append-snoc, drop-drop, getD-drop, take-suc, length-take-le, atFront, Register}
-use Rattle.job_rules.proofs.Shared.{wordAt, ofBytes, Bytes, instructionsAt, fourBytes, headerBytes, registerCount, encode, pieces, filled}
+use Rattle.job_rules.proofs.Shared.{length-drop, drop-of-length-le, take-append-drop, take-at, set-at, append-snoc, drop-drop, getD-drop}
+use Rattle.job_rules.proofs.Shared.{take-suc, length-take-le, getD-take, atFront, Register, wordAt, ofBytes, Bytes, instructionsAt, fourBytes}
+use Rattle.job_rules.proofs.Shared.{headerBytes, registerCount, encode, pieces, filled}
 use native.Mathlib.Numerals.{add-one, unary-clauses}
 use borrow.Rule.Slice.PartMut.{midOf, putMid}
 use Rattle.buffer.proofs.Parts.{then-front}
@@ -72,6 +73,25 @@ module _ {A : Type 0} (bytes : A → List ℕ) where
         then-front (k * i) (flatMap bytes (take i xs)) (bytes (getD xs i none)) old out part n e f
         ∙ rw (add-one, take-suc xs i none h, pieces-join (take i xs) (getD xs i none ∷ []), one-piece (getD xs i none))
 
+    -- the same of a piece that is copied from a buffer of its own
+    pub next-copied : (none : A) (xs : List A) (old out part b : List ℕ) (i : ℕ) → i < length xs → out ≡ atFront (flatMap bytes (take i xs)) old
+        → b ≡ bytes (getD xs i none) → part ≡ atFront b (midOf (k * i) (length out - k * i) out)
+        → putMid (k * i) (length out - k * i) out part ≡ atFront (flatMap bytes (take (i + 1) xs)) old
+    next-copied none xs old out part b i h e g f =
+        next-written none xs old out part i h e (f ∙ ap (λ (l : List ℕ). atFront l (midOf (k * i) (length out - k * i) out)) g)
+
+    -- pieces that fill the buffer
+    pub pieces-fill : (xs : List A) (old out : List ℕ) → length old ≤ k * length xs → out ≡ atFront (flatMap bytes xs) old → out ≡ flatMap bytes xs
+    pieces-fill xs old out h e =
+        let all = drop-of-length-le old {i = length (flatMap bytes xs)} (omega (arith, pieces-size xs)) in
+        e ∙ ap (λ (l : List ℕ). flatMap bytes xs ++ l) all ∙ append-nil (flatMap bytes xs)
+
+    -- the bytes of the first n pieces
+    pub first-pieces : (n : ℕ) (xs : List A) → n ≤ length xs → take (k * n) (flatMap bytes xs) ≡ flatMap bytes (take n xs)
+    first-pieces n xs h =
+        ap (take (k * n)) (sym (ap (flatMap bytes) (take-append-drop n xs)) ∙ pieces-join (take n xs) (drop n xs))
+        ∙ take-at (flatMap bytes (take n xs)) _ (k * n) (pieces-size (take n xs) ∙ ap (λ (j : ℕ). k * j) (length-take-le n xs h))
+
   -- what was read is written as it stood
   pub pieces-back : (says : List ℕ → A) (k : ℕ) → ((l : List ℕ) → Bytes l → k ≤ length l → bytes (says l) ++ drop k l ≡ l)
       → (n : ℕ) (l : List ℕ) → Bytes l → k * n ≤ length l → flatMap bytes (pieces says k n l) ++ drop (k * n) l ≡ l
@@ -95,10 +115,30 @@ word-behind l a b =
 pub word-there : (l : List ℕ) (a : ℕ) {w : ℕ} → w ≡ wordAt l a → w ≡ wordAt (drop a l) 0
 word-there l a e = e ∙ sym (word-behind l a 0 ∙ ap (wordAt l) (add-zero a))
 
-pub register-there : (l : List ℕ) (a : ℕ) {w0 w1 w2 w3 : ℕ} → w0 ≡ wordAt l a → w1 ≡ wordAt l (a + 4) → w2 ≡ wordAt l (a + 8) → w3 ≡ wordAt l (a + 12)
-    → _≡_ {A = Register} (record { w0 = w0; w1 = w1; w2 = w2; w3 = w3 }) (ofBytes (drop a l))
-register-there l a e0 e1 e2 e3 =
-    same (word-there l a e0) (e1 ∙ sym (word-behind l a 4)) (e2 ∙ sym (word-behind l a 8)) (e3 ∙ sym (word-behind l a 12))
+-- the 16 bytes of a register, one store after another
+pub next-byte : (l : List ℕ) (at i : ℕ) (xs : List ℕ) (x : ℕ) → i < 16 → at + 16 ≤ length l
+    → xs ≡ filled 16 0 (take i (drop at l)) → x ≡ getD l (at + i) 0 → set xs i x ≡ filled 16 0 (take (i + 1) (drop at l))
+next-byte l at i xs x h room e f =
+    let behind = length-drop at l in
+    let n : length (take i (drop at l)) ≡ i = length-take-le i (drop at l) (omega arith) in
+    let stored = one-filled 16 0 x (take i (drop at l)) (omega arith) in
+    rw (e, add-one, take-suc (drop at l) i 0 (omega arith), getD-drop at l i 0, ← f)
+    (ap (λ (j : ℕ). set (filled 16 0 (take i (drop at l))) j x) (sym n) ∙ stored)
+
+pub all-bytes : (l : List ℕ) (at : ℕ) → at + 16 ≤ length l → filled 16 0 (take 16 (drop at l)) ≡ take 16 (drop at l)
+all-bytes l at room =
+    let n = length-take-le 16 (drop at l) (omega (arith, length-drop at l)) in
+    rw n (append-nil (take 16 (drop at l)))
+
+-- and they are all that it is made from
+pub register-there : (l : List ℕ) {b : List ℕ} {r : Register} → b ≡ take 16 l → r ≡ ofBytes b → r ≡ ofBytes l
+register-there l e f = f ∙ ap ofBytes e ∙ same (word 0 (omega arith)) (word 4 (omega arith)) (word 8 (omega arith)) (word 12 (omega arith))
+  where
+    byte : (i : ℕ) → i < 16 → getD (take 16 l) i 0 ≡ getD l i 0
+    byte i h = getD-take 16 l i 0 h
+
+    word : (i : ℕ) → i + 3 < 16 → wordAt (take 16 l) i ≡ wordAt l i
+    word i h = rw (byte i (omega arith), byte (i + 1) (omega arith), byte (i + 2) (omega arith), byte (i + 3) (omega arith))
 
 -- ---- a whole job
 

@@ -2,14 +2,15 @@
 -- the tests leave known of a file or a job that they accept.
 -- Assumes nothing.
 use Rattle.job_rules.proofs.Shared.{ℕ, suc, _+_, _*_, _/_, _%_, _^_, _≤_, _≡_, refl, sym, ap, subst, _∙_, Bool, true, false, cond, List, []}
-use Rattle.job_rules.proofs.Shared.{_∷_, _++_, flatMap, append-nil, arith, le-ltb, ltb-true, ltb, length, getD, drop, length-drop}
-use Rattle.job_rules.proofs.Shared.{drop-of-length-le, take-append-seam, drop-at, drop-drop, Register, wordAt, ofBytes, bytesOf, firstBad}
-use Rattle.job_rules.proofs.Shared.{ReadJob, Bytes, instructionsAt, registersAt, twoBytes, fourBytes, headerBytes, registerCount, encode}
-use Rattle.job_rules.proofs.Shared.{twoAt, wordsIn, registersOf, jobOf, acceptedOf, bodyOf, readOf, programOf, registerBytesOf}
+use Rattle.job_rules.proofs.Shared.{_∷_, _++_, flatMap, append-nil, arith, ltb-true, ltb, length, getD, drop, length-drop, drop-of-length-le}
+use Rattle.job_rules.proofs.Shared.{take-append-seam, drop-at, drop-drop, Register, wordAt, ofBytes, bytesOf, firstBad, Job, ReadJob, Bytes}
+use Rattle.job_rules.proofs.Shared.{instructionsAt, registersAt, twoBytes, fourBytes, headerBytes, registerCount, encode, twoAt, wordsIn}
+use Rattle.job_rules.proofs.Shared.{registersOf, jobOf, acceptedOf, bodyOf, readOf, linesOf, registerBytesOf}
 use Rattle.register.proofs.ByteOrder.{word-of-its-bytes, next, bytes-of-word-at}
 use Rattle.register.proofs.Theorems.{bytes-then-rest}
+use Rattle.table.proofs.Decided.{deciding}
 use Rattle.job_rules.proofs.Pieces.{bytes-behind, length-pieces, pieces-size, pieces-back, four-bytes, job-size}
-use Rattle.job_rules.proofs.Refusals.{Writable, Accepts, Header-taken, header-counts, Accepted, read, jobIn}
+use Rattle.job_rules.proofs.Refusals.{Writable, Accepts, Taken, header-counts, Accepted, read, jobIn}
 
 -- ---- read again what was written
 
@@ -49,7 +50,7 @@ module _ (words bytes : List ℕ) (w : Writable words bytes) where
   unfolding encode
   says-second = let few = w .few in omega arith
 
-  header-written : Header-taken instructionsAt file
+  header-written : Taken instructionsAt file
   header-written =
       let few = w .few in
       let fewer = w .fewer in
@@ -57,13 +58,11 @@ module _ (words bytes : List ℕ) (w : Writable words bytes) where
       let size = job-size words bytes in
       record {
         whole = omega arith;
-        taken = record {
-          few = omega (arith, says-n);
-          fewer = omega (arith, says-r);
-          right-first = says-first;
-          right-second = omega (arith, says-n, says-second);
-          right-size = omega (arith, says-n, says-r);
-        };
+        few = omega (arith, says-n);
+        fewer = omega (arith, says-r);
+        right-first = says-first;
+        right-second = omega (arith, says-n, says-second);
+        right-size = omega (arith, says-n, says-r);
       }
 
   pub says-words : wordsIn (length words) (drop instructionsAt file) ≡ words
@@ -79,7 +78,7 @@ module _ (words bytes : List ℕ) (w : Writable words bytes) where
   pub read-encoded : readOf instructionsAt file ≡ acceptedOf (jobOf words (registersOf (registerCount bytes) bytes))
   unfolding bodyOf
   read-encoded =
-      rw (header-counts instructionsAt file header-written, says-n, says-r, says-words, says-bytes, le-ltb _ _ (w .good))
+      rw (← (header-counts instructionsAt file header-written), says-n, says-r, says-words, says-bytes) (let good = w .good in sym (search deciding))
 
 -- ---- write again what was read
 
@@ -123,13 +122,13 @@ module _ (l : List ℕ) (b : Bytes l) (a : Accepted instructionsAt l) where
   header-back : headerBytes instructionsAt n r ++ drop 8 l ≡ l
   header-back =
       let whole = a .header .whole in
-      let t = a .header .taken in
+      let t = a .header in
       sym (λ i. twoBytes n ++ twoBytes r ++ twoBytes (t .right-first i) ++ twoBytes (t .right-second i) ++ drop 8 l)
       ∙ two-back l b 0 (omega arith) (sym (two-back l b 2 (omega arith) (sym (two-back l b 4 (omega arith) (sym (two-back l b 6 (omega arith) refl))))))
 
   registers-back : flatMap bytesOf registers ≡ drop (registersAt instructionsAt n) l
   registers-back =
-      let size = a .header .taken .right-size in
+      let size = a .header .right-size in
       let behind : List ℕ = drop (registersAt instructionsAt n) l in
       let counted = length-drop (registersAt instructionsAt n) l in
       let none : drop (16 * r) behind ≡ [] = drop-of-length-le behind {i = 16 * r} (omega arith) in
@@ -138,7 +137,7 @@ module _ (l : List ℕ) (b : Bytes l) (a : Accepted instructionsAt l) where
 
   words-and-registers-back : flatMap fourBytes words ++ flatMap bytesOf registers ≡ drop 8 l
   words-and-registers-back =
-      let size = a .header .taken .right-size in
+      let size = a .header .right-size in
       let counted = length-drop 8 l in
       ap (λ (t : List ℕ). flatMap fourBytes words ++ t) (registers-back ∙ sym (drop-drop (4 * n) 8 l))
       ∙ pieces-back fourBytes (λ (m : List ℕ). wordAt m 0) 4 word-back n (drop 8 l) (bytes-behind 8 l b) (omega arith)
@@ -155,22 +154,22 @@ module _ (l : List ℕ) (b : Bytes l) (a : Accepted instructionsAt l) where
   job-read : readOf instructionsAt l .job ≡ jobIn instructionsAt l
   job-read = ap (λ (v : ReadJob). v .job) (read instructionsAt l a)
 
-  handed-words : programOf (readOf instructionsAt l .job) ≡ words
-  handed-words = ap programOf job-read ∙ take-append-seam words _
+  handed-words : linesOf (readOf instructionsAt l .job .program) ≡ words
+  handed-words = ap (λ (j : Job). linesOf (j .program)) job-read ∙ take-append-seam words _
 
   handed-bytes : registerBytesOf (readOf instructionsAt l .job) ≡ flatMap bytesOf registers
   handed-bytes = ap registerBytesOf job-read ∙ ap (flatMap bytesOf) (take-append-seam registers _)
 
-  pub file-again : encode instructionsAt (programOf (readOf instructionsAt l .job)) (registerBytesOf (readOf instructionsAt l .job)) ≡ l
+  pub file-again : encode instructionsAt (linesOf (readOf instructionsAt l .job .program)) (registerBytesOf (readOf instructionsAt l .job)) ≡ l
   file-again = (λ i. encode instructionsAt (handed-words i) (handed-bytes i)) ∙ file-back
 
   pub bytes-again : Bytes (registerBytesOf (readOf instructionsAt l .job))
   bytes-again = subst Bytes (sym (handed-bytes ∙ registers-back)) (bytes-behind (registersAt instructionsAt n) l b)
 
   pub accepts-again : (out : List ℕ) → length l ≤ length out
-      → Accepts instructionsAt (programOf (readOf instructionsAt l .job)) (registerBytesOf (readOf instructionsAt l .job)) (length out)
+      → Accepts instructionsAt (linesOf (readOf instructionsAt l .job .program)) (registerBytesOf (readOf instructionsAt l .job)) (length out)
   accepts-again out room =
-      let t = a .header .taken in
+      let t = a .header in
       rw (handed-words, handed-bytes)
       (record {
         job = record {

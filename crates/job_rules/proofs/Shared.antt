@@ -4,25 +4,27 @@ pub use Prim.Native.Nat.{ℕ, zero, suc, _+_, _-_, _*_, _≤_, _<_, _%_, _/_, _^
 pub use mathlib.Core.Path.{_≡_, refl, sym, ap, _∙_, subst}
 pub use mathlib.Core.List.{List, [], _∷_, _++_, append-assoc, append-nil}
 unfoldable pub use mathlib.Core.List.{flatMap}
-pub use mathlib.Core.Bool.{Bool, true, false, cond, not, _||_, true≢false}
+pub use mathlib.Core.Bool.{Bool, true, false, cond, not, _||_}
 pub use native.Mathlib.Nat.{add-assoc, add-zero, le-refl, le-of-suc-le-suc, not-suc-le-zero}
 pub use native.Mathlib.Omega.{arith}
-pub use borrow.Author.Tests.{lt-ltb, le-ltb, eq-eqb, ne-eqb, ltb-false, eqb-true, not-false, ltb-true}
-pub use lib.ListN.{length, getD, take, drop, set, replicate, length-append, length-drop, drop-of-length-le}
+pub use borrow.Author.Tests.{eq-eqb, ne-eqb, ltb-false, eqb-true, not-false, ltb-true}
+pub use lib.ListN.{length, getD, take, drop, set, replicate, length-append, length-drop, drop-of-length-le, take-append-drop}
 pub use lib.Seq.{set-at, append-snoc, drop-drop, getD-drop, take-suc, length-take-le, take-at, take-append-seam, drop-at, getD-take}
 pub use lib.Dec.{ltb, eqb}
 pub use Rattle.buffer.specs.Front.{atFront}
 pub use Rattle.register.specs.declared.Register.{Register}
 pub use Rattle.register.specs.Layout.{wordAt, ofBytes, zeroRegister, bytesOf}
-pub use Rattle.table.specs.Refusal.{SHORT, COUNT, REGS, PLACE, WORD, ROOM}
+pub use Rattle.table.specs.Refusal.{COUNT, REGS, PLACE, WORD}
 unfoldable pub use Rattle.table.specs.Refusal.{firstBad}
+pub use Rattle.job_rules.specs.Program.{linesOf}
 pub use Rattle.job_rules.specs.Layout.{Bytes, instructionsAt, fourBytes, headerBytes, registerCount, pieces, registersAt, sizeOf, twoAt}
 pub use Rattle.job_rules.specs.Layout.{wordsIn, registersOf, twoBytes, LARGEST}
 unfoldable pub use Rattle.job_rules.specs.Layout.{encode}
 pub use Rattle.job_rules.specs.Read.{filled, jobOf, acceptedOf, refusedOf, numberOf, answerFor, readOf}
 unfoldable pub use Rattle.job_rules.specs.Read.{testedOf, headerOf, bodyOf}
 pub use Rattle.job_rules.specs.declared.Header.the-variants.{Counts, Refused}
+pub use Rattle.job_rules.specs.declared.Job.{Job}
 pub use Rattle.job_rules.specs.declared.ReadJob.{ReadJob}
 pub use Rattle.job_rules.specs.declared.Written.{Written}
-pub use Rattle.job_rules.specs.Write.{writtenOf, programOf, registerBytesOf}
+pub use Rattle.job_rules.specs.Write.{writtenOf, registerBytesOf}
 unfoldable pub use Rattle.job_rules.specs.Write.{sizeOrRefusal, writeOf}

@@ -1,14 +1,13 @@
 -- For the reader of specs/: a job that is written and read again is the same job, a file that is read and written again is the same file, and a file is
 -- accepted exactly when the writer gives it. All of it over what the two calls promise, `writeOf instructionsAt` and `readOf instructionsAt`.
 -- Assumes nothing.
-use Rattle.job_rules.proofs.Shared.{ℕ, zero, suc, _-_, _≤_, le-refl, le-of-suc-le-suc, not-suc-le-zero, arith, _≡_, refl, sym, ap, _∙_, List}
-use Rattle.job_rules.proofs.Shared.{[], _∷_, _++_, flatMap, length, getD, take, drop, replicate, take-append-seam, atFront, firstBad, ReadJob}
-use Rattle.job_rules.proofs.Shared.{Written, Bytes, instructionsAt, LARGEST, registersAt, sizeOf, registerCount, encode, twoAt, wordsIn}
-use Rattle.job_rules.proofs.Shared.{registersOf, filled, jobOf, acceptedOf, readOf, writtenOf, sizeOrRefusal, writeOf, programOf}
-use Rattle.job_rules.proofs.Shared.{registerBytesOf}
+use Rattle.job_rules.proofs.Shared.{ℕ, _≤_, le-refl, arith, _≡_, refl, sym, ap, _∙_, List, flatMap, length, take, drop, replicate}
+use Rattle.job_rules.proofs.Shared.{take-append-seam, atFront, firstBad, ReadJob, Written, Bytes, instructionsAt, LARGEST, registersAt, sizeOf}
+use Rattle.job_rules.proofs.Shared.{registerCount, encode, twoAt, wordsIn, registersOf, jobOf, acceptedOf, readOf, writtenOf, sizeOrRefusal}
+use Rattle.job_rules.proofs.Shared.{writeOf, linesOf, registerBytesOf, _*_, bytesOf, Register, Job}
 use mathlib.Core.Logic.{_↔_}
-use Rattle.table.proofs.Rows.{all-alike}
-use Rattle.job_rules.proofs.Pieces.{job-size}
+use Rattle.table.specs.Decided.{decided}
+use Rattle.job_rules.proofs.Pieces.{first-pieces, job-size}
 use Rattle.job_rules.proofs.Refusals.{not-written, accepts, written, accepted}
 use Rattle.job_rules.proofs.RoundTrip.{says-n, says-words, says-bytes, read-encoded, file-again, bytes-again, accepts-again}
 
@@ -27,11 +26,16 @@ read-written words bytes out e =
 
 -- Writing what was read from an accepted file gives the same bytes.
 pub written-read : (l out : List ℕ) → Bytes l → readOf instructionsAt l .refusal ≡ 0 → length l ≤ length out
-    → writeOf instructionsAt (programOf (readOf instructionsAt l .job)) (registerBytesOf (readOf instructionsAt l .job)) out ≡ (writtenOf 0 0 (length l), atFront l out)
+    → writeOf instructionsAt (linesOf (readOf instructionsAt l .job .program)) (registerBytesOf (readOf instructionsAt l .job)) out
+    ≡ (writtenOf 0 0 (length l), atFront l out)
 written-read l out b e room =
     let a = accepted instructionsAt l e in
     let again = file-again l b a in
     written instructionsAt _ _ out (accepts-again l b a out room) ∙ (λ i. (writtenOf 0 0 (length (again i)), atFront (again i) out))
+
+-- A job's register bytes, as the writer takes them, are the first 16 r of the bytes of its 32 registers.
+pub registers-handed : (j : Job) → j .r ≤ length (j .registers) → take (16 * j .r) (flatMap bytesOf (j .registers)) ≡ registerBytesOf j
+registers-handed j h = first-pieces bytesOf 16 (λ (v : Register). refl) (j .r) (j .registers) h
 
 -- ---- one file for each job, and one job for each file
 
@@ -52,7 +56,7 @@ pub same-job : (l l′ : List ℕ) → Bytes l → Bytes l′ → readOf instruc
     → readOf instructionsAt l .job ≡ readOf instructionsAt l′ .job → l ≡ l′
 same-job l l′ b b′ e e′ same =
     sym (file-again l b (accepted instructionsAt l e))
-    ∙ (λ i. encode instructionsAt (programOf (same i)) (registerBytesOf (same i)))
+    ∙ (λ i. encode instructionsAt (linesOf (same i .program)) (registerBytesOf (same i)))
     ∙ file-again l′ b′ (accepted instructionsAt l′ e′)
 
 -- the writer's output for some job: words and register bytes that it puts, as this file, at the front of every buffer with room
@@ -67,7 +71,7 @@ accepted-exactly l b = (gives, given)
   where
     gives : readOf instructionsAt l .refusal ≡ 0 → Output l
     gives e = (
-      programOf (readOf instructionsAt l .job),
+      linesOf (readOf instructionsAt l .job .program),
       registerBytesOf (readOf instructionsAt l .job),
       bytes-again l b (accepted instructionsAt l e),
       λ out room. written-read l out b e room,
@@ -90,11 +94,11 @@ refused-unaltered words bytes out h = ap (λ (w : Written × List ℕ). w .1) (s
 -- "at most 776": no accepted file is larger, and one of 64 words and 32 registers is as large.
 pub never-larger : (l : List ℕ) → readOf instructionsAt l .refusal ≡ 0 → length l ≤ LARGEST
 never-larger l e =
-    let t = accepted instructionsAt l e .header .taken in
+    let t = accepted instructionsAt l e .header in
     omega (arith, t .few, t .fewer, t .right-size)
 
 pub largest-written : writeOf instructionsAt (replicate 64 0) (replicate 512 0) (replicate LARGEST 0) .0 ≡ writtenOf 0 0 LARGEST
-unfolding sizeOrRefusal writeOf encode flatMap firstBad
+unfolding sizeOrRefusal decided writeOf encode flatMap firstBad
 largest-written = refl
 
 -- "The whole is exactly 8+4n+16r bytes": what the writer answers as the size.
@@ -104,12 +108,3 @@ size-written words bytes out e =
     let a = accepts instructionsAt words bytes out e in
     let whole = a .job .whole in
     ap (λ (w : Written × List ℕ). w .0 .size) (written instructionsAt words bytes out a) ∙ omega (arith, job-size words bytes)
-
--- "zero beyond n and r"
-pub zero-beyond : {A : Type 0} (size : ℕ) (none : A) (l : List A) (i : ℕ) → length l ≤ i → getD (filled size none l) i none ≡ none
-zero-beyond {A} size none l i h = behind l i (size - length l) h
-  where
-    behind : (l : List A) (i m : ℕ) → length l ≤ i → getD (l ++ replicate m none) i none ≡ none
-    behind [] i m h = all-alike none m i
-    behind (x ∷ l) zero m h = absurd (not-suc-le-zero h)
-    behind (x ∷ l) (suc i) m h = behind l i m (le-of-suc-le-suc h)

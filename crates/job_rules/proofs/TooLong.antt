@@ -1,39 +1,42 @@
 -- A file of more than 776 bytes is refused by what its first eight bytes say, or for its size; so any file that is so long and begins alike is refused alike.
 -- Carried by the tests in their order: no size of counts within the limits is over 776.
 -- Assumes nothing.
-use Rattle.job_rules.proofs.Shared.{ℕ, suc, _+_, _<_, arith, _≡_, refl, sym, _∙_, Bool, true, false, cond, not, _||_, List, ltb-false, le-ltb}
-use Rattle.job_rules.proofs.Shared.{ne-eqb, ltb, eqb, length, take, getD-take, length-take-le, COUNT, REGS, PLACE, Refused, ReadJob}
-use Rattle.job_rules.proofs.Shared.{instructionsAt, registersAt, sizeOf, LARGEST, twoAt, refusedOf, testedOf, headerOf, readOf}
+use Rattle.job_rules.proofs.Shared.{ℕ, suc, _+_, _<_, arith, _≡_, sym, ap, _∙_, not, _||_, List, [], _∷_, ltb-true, ltb-false, eqb-true}
+use Rattle.job_rules.proofs.Shared.{not-false, ltb, eqb, length, take, getD-take, length-take-le, COUNT, REGS, PLACE, Refused, ReadJob}
+use Rattle.job_rules.proofs.Shared.{instructionsAt, registersAt, sizeOf, LARGEST, twoAt, refusedOf, testedOf, headerOf, answerFor, readOf}
+use Rattle.table.specs.Decided.{decided}
 use Rattle.table.specs.Refusal.{LENGTH}
+use Rattle.table.proofs.Decided.{apart, deciding}
+use Rattle.job_rules.specs.declared.Header.{Header}
 
 -- the number that counts and offsets give a file that is too long
 abbrev numberFor : ℕ → ℕ → ℕ → ℕ → ℕ
 numberFor n r first second =
-    cond (ltb 64 n) COUNT
-    (cond (ltb 32 r) REGS
-    (cond (not (eqb first instructionsAt) || not (eqb second (registersAt instructionsAt n))) PLACE
-    LENGTH))
+    decided
+    ((ltb 64 n, COUNT)
+    ∷ (ltb 32 r, REGS)
+    ∷ (not (eqb first instructionsAt) || not (eqb second (registersAt instructionsAt n)), PLACE)
+    ∷ [])
+    LENGTH
 
-tested-too-long : (n r first second size : ℕ) → LARGEST < size → testedOf instructionsAt n r first second size ≡ Refused (numberFor n r first second)
-unfolding testedOf
-tested-too-long n r first second size long = go (ltb 64 n) refl (ltb 32 r) refl (not (eqb first instructionsAt) || not (eqb second (registersAt instructionsAt n))) refl
+header-too-long : (l : List ℕ) → LARGEST < length l → headerOf instructionsAt l ≡ Refused (numberFor (twoAt l 0) (twoAt l 2) (twoAt l 4) (twoAt l 6))
+unfolding headerOf testedOf
+header-too-long l long =
+    apart _ _ P _ _ (λ short. let h : length l < 8 = ltb-true (length l) 8 short in absurd (omega arith)) (λ _.
+    apart _ _ P _ _ (λ a. ap Refused (search deciding depth 8)) (λ a.
+    apart _ _ P _ _ (λ b. ap Refused (search deciding depth 8)) (λ b.
+    apart _ _ P _ _ (λ d. ap Refused (search deciding depth 8)) (λ d.
+    apart _ _ P _ _ (λ _. ap Refused (search deciding depth 8)) (λ f.
+    let few = ltb-false 64 (twoAt l 0) a in
+    let fewer = ltb-false 32 (twoAt l 2) b in
+    let size = eqb-true (length l) (sizeOf instructionsAt (twoAt l 0) (twoAt l 2)) (not-false _ f) in
+    absurd (omega arith))))))
   where
-    go : (s : Bool) → ltb 64 n ≡ s → (t : Bool) → ltb 32 r ≡ t → (p : Bool) → (not (eqb first instructionsAt) || not (eqb second (registersAt instructionsAt n))) ≡ p
-        → testedOf instructionsAt n r first second size ≡ Refused (numberFor n r first second)
-    go true a t b p c = rw a
-    go false a true b p c = rw (a, b)
-    go false a false b true c = rw (a, b, c)
-    go false a false b false c =
-        let few = ltb-false 64 n a in
-        let fewer = ltb-false 32 r b in
-        let other = ne-eqb size (sizeOf instructionsAt n r) (λ e. omega arith) in
-        rw (a, b, c, other)
+    P : Header → Type 0
+    P h = h ≡ Refused (numberFor (twoAt l 0) (twoAt l 2) (twoAt l 4) (twoAt l 6))
 
 read-too-long : (l : List ℕ) → LARGEST < length l → readOf instructionsAt l ≡ refusedOf (numberFor (twoAt l 0) (twoAt l 2) (twoAt l 4) (twoAt l 6)) 0
-unfolding headerOf
-read-too-long l long =
-    let whole = le-ltb (length l) 8 (omega arith) in
-    rw (whole, tested-too-long (twoAt l 0) (twoAt l 2) (twoAt l 4) (twoAt l 6) (length l) long)
+read-too-long l long = ap (answerFor instructionsAt l) (header-too-long l long)
 
 -- "at most 776": a file over 776 bytes is answered as its first 777 bytes are
 pub first-bytes-decide : (l : List ℕ) → LARGEST < length l → readOf instructionsAt l ≡ readOf instructionsAt (take (suc LARGEST) l)

@@ -1,3 +1,4 @@
+pub mod Program
 pub mod Layout
 pub mod Read
 pub mod Write

@@ -2,12 +2,13 @@
 -- Assumes nothing.
 use Prim.Native.Nat.{ℕ, _%_}
 use mathlib.Core.Bool.{cond, not, _||_}
-use mathlib.Core.List.{List, flatMap}
+use mathlib.Core.List.{List, [], _∷_, flatMap}
 use lib.Dec.{ltb, eqb}
 use lib.ListN.{length, take}
 use Rattle.buffer.specs.Front.{atFront}
 use Rattle.register.specs.Layout.{bytesOf}
 use Rattle.table.specs.Refusal.{COUNT, REGS, WORD, ROOM, firstBad}
+use Rattle.table.specs.Decided.{decided}
 use Rattle.job_rules.specs.declared.Job.{Job}
 use Rattle.job_rules.specs.declared.Written.{Written}
 use Rattle.job_rules.specs.Layout.{encode}
@@ -20,11 +21,13 @@ writtenOf number place size = record { refusal = number; place = place; size = s
 unfoldable pub sizeOrRefusal : ℕ → List ℕ → List ℕ → ℕ → Written
 sizeOrRefusal at words bytes room =
     let size : ℕ = length (encode at words bytes) in
-    cond (ltb 64 (length words)) (writtenOf COUNT 0 0)
-    (cond (ltb 512 (length bytes) || not (eqb (length bytes % 16) 0)) (writtenOf REGS 0 0)
-    (cond (ltb (firstBad words) (length words)) (writtenOf WORD (firstBad words) 0)
-    (cond (ltb room size) (writtenOf ROOM 0 0)
-    (writtenOf 0 0 size))))
+    decided
+    ((ltb 64 (length words), writtenOf COUNT 0 0)
+    ∷ (ltb 512 (length bytes) || not (eqb (length bytes % 16) 0), writtenOf REGS 0 0)
+    ∷ (ltb (firstBad words) (length words), writtenOf WORD (firstBad words) 0)
+    ∷ (ltb room size, writtenOf ROOM 0 0)
+    ∷ [])
+    (writtenOf 0 0 size)
 
 -- that answer, and the buffer afterwards: "The writer puts the job at the front of the buffer; bytes beyond it stay"; refused, "buffers stay unaltered"
 unfoldable pub writeOf : ℕ → List ℕ → List ℕ → List ℕ → Written × List ℕ
@@ -32,9 +35,6 @@ writeOf at words bytes out =
     let answer : Written = sizeOrRefusal at words bytes (length out) in
     (answer, cond (eqb (answer .refusal) 0) (atFront (encode at words bytes) out) out)
 
--- a job that was read, as the writer takes it: its n words and the bytes of its r registers
-abbrev pub programOf : Job → List ℕ
-programOf j = take (j .n .0) (j .words)
-
+-- a job that was read, as the writer takes it: the lines of its program, and the bytes of its r registers
 abbrev pub registerBytesOf : Job → List ℕ
 registerBytesOf j = flatMap bytesOf (take (j .r) (j .registers))

@@ -6,10 +6,15 @@ use table::Count;
 // Where a file's instruction words begin.
 pub const INSTRUCTIONS_AT: usize = 8;
 
-// A job: zero beyond the first n words and the first r registers.
-pub struct Job {
+// A program: its n lines in front of 64 words.
+pub struct Program {
     pub words: [u32; 64],
     pub n: Count,
+}
+
+// A job: a program and the first r registers. Zero beyond the n lines and the r registers.
+pub struct Job {
+    pub program: Program,
     pub registers: [Register; 32],
     pub r: usize,
 }

@@ -9,6 +9,7 @@ ghost use Rattle.job_rules.specs.Layout.{instructionsAt, LARGEST, fourBytes, he
 ghost use Rattle.job_rules.specs.Write.{writeOf};
 
 mod numbers;
+pub mod registers;
 pub mod tests;
 
 use crate::numbers::put_four;
@@ -48,7 +49,7 @@ fn put_words(out: &mut [u8], words: &[u32])
     }
 }
 
-fn put_bytes(out: &mut [u8], bytes: &[u8])
+pub(crate) fn put_bytes(out: &mut [u8], bytes: &[u8])
     requires { ⌜ length (now bytes) ≤ length (now out) ⌝ }
     ensures { λ _. ⌜ now (out .exit) ≡ atFront (now (bytes .entry)) (now (out .entry)) ⌝ }
 {

@@ -30,10 +30,10 @@ pub record Pipe (M : Stages) : Type 0 where
   pub idex : Slot (Latched (M .Instr) (M .Ops))
   pub exwb : Slot (Latched (M .Instr) (M .Out))
 
--- what the file has to be for the law to hold, and that writing keeps it so
-pub record Lawful (M : Stages) (Ok : M .File → Type 0) : Type 0 where
+-- what the instruction that is forwarded from and the file have to be for the law to hold, and that writing keeps the file so
+pub record Lawful (M : Stages) (Good : M .Instr → Type 0) (Ok : M .File → Type 0) : Type 0 where
   pub keeps : (j : M .Instr) (o : M .Out) (f : M .File) → Ok f → Ok (M .commit j o f)
-  pub forwards : (j i : M .Instr) (o : M .Out) (f : M .File) → Ok f
+  pub forwards : (j i : M .Instr) (o : M .Out) (f : M .File) → Good j → Ok f
       → M .work i (M .forward j o i (M .read i f)) ≡ M .work i (M .read i (M .commit j o f))
 
 module _ (M : Stages) where
@@ -104,7 +104,18 @@ module _ (M : Stages) where
   abbrev pub pipeAt : (ℕ → Slot (M .Instr)) → M .File → ℕ → Pipe M
   pipeAt line f c = holding (executedAll (late line) c f) (late line c) (late line (suc c)) (late line (suc (suc c)))
 
-  module _ (Ok : M .File → Type 0) (law : Lawful M Ok) where
+  -- a latch with a good instruction, or none
+  abbrev pub GoodIn : (M .Instr → Type 0) → Slot (M .Instr) → Type 0
+  GoodIn Good empty = Unit {0}
+  GoodIn Good (holds i) = Good i
+
+  module _ (Good : M .Instr → Type 0) (Ok : M .File → Type 0) (law : Lawful M Good Ok) where
+    good-late : (line : ℕ → Slot (M .Instr)) → ((k : ℕ) → GoodIn Good (line k)) → (c : ℕ) → GoodIn Good (late line c)
+    good-late line good zero = tt
+    good-late line good (suc zero) = tt
+    good-late line good (suc (suc zero)) = tt
+    good-late line good (suc (suc (suc k))) = good k
+
     ok-executed : (x : Slot (M .Instr)) (f : M .File) → Ok f → Ok (executed x f)
     ok-executed empty f k = k
     ok-executed (holds i) f k = law .keeps i (outcome i f) f k
@@ -113,13 +124,15 @@ module _ (M : Stages) where
     ok-all line f k zero = k
     ok-all line f k (suc c) = ok-executed (line c) (executedAll line c f) (ok-all line f k c)
 
-    cycled-holding : (f : M .File) → Ok f → (x y z new : Slot (M .Instr)) → cycled new (holding f x y z) ≡ holding (executed x f) y z new
-    cycled-holding f k empty empty z new = refl
-    cycled-holding f k empty (holds i) z new = refl
-    cycled-holding f k (holds j) empty z new = refl
-    cycled-holding f k (holds j) (holds i) z new = rw (law .forwards j i (outcome j f) f k)
+    cycled-holding : (f : M .File) → Ok f → (x y z new : Slot (M .Instr)) → GoodIn Good x → cycled new (holding f x y z) ≡ holding (executed x f) y z new
+    cycled-holding f k empty empty z new g = refl
+    cycled-holding f k empty (holds i) z new g = refl
+    cycled-holding f k (holds j) empty z new g = refl
+    cycled-holding f k (holds j) (holds i) z new g = rw (law .forwards j i (outcome j f) f g k)
 
     -- a cycle more
-    pub next-cycle : (line : ℕ → Slot (M .Instr)) (f : M .File) → Ok f → (c : ℕ) → cycled (line c) (pipeAt line f c) ≡ pipeAt line f (suc c)
-    next-cycle line f k c =
+    pub next-cycle : (line : ℕ → Slot (M .Instr)) → ((k : ℕ) → GoodIn Good (line k)) → (f : M .File) → Ok f
+        → (c : ℕ) → cycled (line c) (pipeAt line f c) ≡ pipeAt line f (suc c)
+    next-cycle line good f k c =
         cycled-holding (executedAll (late line) c f) (ok-all (late line) f k c) (late line c) (late line (suc c)) (late line (suc (suc c))) (line c)
+        (good-late line good c)

@@ -13,8 +13,8 @@ use Rattle.table.specs.declared.Pointer.{Pointer}
 use Rattle.table.specs.declared.Target.the-variants.{None, To}
 use Rattle.table.specs.Fields.{firstOf, rs2Of, rs3Of, rdOf}
 use Rattle.table.specs.Operation.{isNop, targetOf}
-use Rattle.alu_rules.specs.Result.{resultOf}
-use Rattle.plain_rules.specs.Machine.{stored, valueOn, stepOn, plainOn, plainRows}
+use Rattle.alu_rules.specs.Result.{outcomeOf}
+use Rattle.plain_rules.specs.Machine.{stored, outcomeOn, stepOn, plainOn, plainRows}
 use Rattle.plain.specs.Chosen.{chosen}
 
 -- the program from i on
@@ -40,7 +40,7 @@ stored-at-rd {A} w v none f = go (isNop w)
 
 -- the row that w leaves at d, from the rows at a, b and c
 abbrev left-by : ℕ → List (List ℕ) → ℕ → ℕ → ℕ → ℕ → List ℕ
-left-by w f a b c d = chosen (targetOf w) (rowOf (resultOf w (ofRow (getD f a [])) (ofRow (getD f b [])) (ofRow (getD f c [])))) (getD f d [])
+left-by w f a b c d = chosen (targetOf w) (rowOf (outcomeOf w (ofRow (getD f a [])) (ofRow (getD f b [])) (ofRow (getD f c [])) .value)) (getD f d [])
 
 -- before the first turn nothing is done, and after the last one all of it
 pub all-words : (p : List ℕ) (i : ℕ) {f g : List (List ℕ)} → length p ≤ i → plainRows (drop i p) f ≡ g → f ≡ g
@@ -62,5 +62,5 @@ turn p i f {d = d} h e1 f1 e2 f2 e3 f3 e4 f4 left before =
     ap (λ (l : List (List ℕ)). plainRows (drop (i + 1) p) l)
     (ap (set f d) left
     ∙ (λ j. set f (ed j) (left-by w f (ea j) (eb j) (ec j) (ed j)))
-    ∙ stored-at-rd w (valueOn ofRow rowOf [] w f) [] f)
+    ∙ stored-at-rd w (rowOf (outcomeOn ofRow rowOf [] w f .value)) [] f)
     ∙ sym (next-word ofRow rowOf [] p i f h) ∙ before

@@ -3,7 +3,7 @@
 ghost use mathlib.Core.Path.{_≡_};
 ghost use Rattle.register.specs.Layout.{rowOf, ofRow};
 ghost use Rattle.table.specs.Operation.{targetOf};
-ghost use Rattle.alu_rules.specs.Result.{resultOf};
+ghost use Rattle.alu_rules.specs.Result.{outcomeOf};
 ghost use Rattle.plain_rules.specs.Machine.{plainRows};
 ghost use Rattle.plain_rules.specs.Answer.{answerOf, executeOf, executeAllOf};
 ghost use Rattle.plain.specs.Chosen.{chosen};
@@ -41,17 +41,19 @@ fn place_of(p: Pointer) -> usize
 }
 
 fn new_row(word: u32, a: [u32; 4], b: [u32; 4], c: [u32; 4]) -> [u32; 4]
-    ensures { λ r. ⌜ r ≡ rowOf (resultOf word (ofRow a) (ofRow b) (ofRow c)) ⌝ }
+    ensures { λ r. ⌜ r ≡ rowOf (outcomeOf word (ofRow a) (ofRow b) (ofRow c) .value) ⌝ }
 {
     let rs1 = Register::from_row(a);
     let rs2 = Register::from_row(b);
     let rs3 = Register::from_row(c);
-    result(word, rs1, rs2, rs3).to_row()
+    let given = result(word, rs1, rs2, rs3);
+    let value = given.value;
+    value.to_row()
 }
 
 // A word that writes nothing leaves the row of its rd as it was.
 fn row_after(word: u32, a: [u32; 4], b: [u32; 4], c: [u32; 4], old: [u32; 4]) -> [u32; 4]
-    ensures { λ r. ⌜ r ≡ chosen (targetOf word) (rowOf (resultOf word (ofRow a) (ofRow b) (ofRow c))) old ⌝ }
+    ensures { λ r. ⌜ r ≡ chosen (targetOf word) (rowOf (outcomeOf word (ofRow a) (ofRow b) (ofRow c) .value)) old ⌝ }
 {
     let target = writes::target_of(word);
     match target {

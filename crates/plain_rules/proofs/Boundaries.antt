@@ -4,6 +4,7 @@ use mathlib.Core.Path.{_≡_, refl}
 use mathlib.Core.List.{[], _∷_}
 use lib.ListN.{replicate}
 use Rattle.table.specs.Refusal.{COUNT, WORD, firstBad}
+use Rattle.table.specs.Decided.{decided}
 use Rattle.plain_rules.specs.Answer.{executeOf, executeAllOf}
 
 -- of 65 lines and of 64, of a word at 2^25 and just below it; and where both faults meet
@@ -11,5 +12,5 @@ pub programs : (executeAllOf (replicate 65 0) [] .refusal ∷ executeAllOf (repl
     ∷ executeAllOf (0 ∷ 0x2000000 ∷ []) [] .refusal ∷ executeAllOf (0 ∷ 0x2000000 ∷ []) [] .place ∷ executeAllOf (0 ∷ 0x1FFFFFF ∷ []) [] .refusal
     ∷ executeAllOf (replicate 65 0x2000000) [] .refusal ∷ executeOf 0x2000000 [] .refusal ∷ executeOf 0x1FFFFFF [] .refusal ∷ [])
     ≡ (COUNT ∷ 0 ∷ WORD ∷ 1 ∷ 0 ∷ COUNT ∷ WORD ∷ 0 ∷ [])
-unfolding executeAllOf executeOf firstBad
+unfolding executeAllOf executeOf decided firstBad
 programs = refl

@@ -10,8 +10,8 @@ use Rattle.table.specs.declared.Target.{Target}
 use Rattle.table.specs.declared.Target.the-variants.{None, To}
 use Rattle.table.specs.Fields.{firstOf, rs2Of, rs3Of}
 use Rattle.table.specs.Operation.{targetOf}
-use Rattle.alu_rules.specs.Result.{resultOf}
-use Rattle.plain_rules.specs.Machine.{stored, valueOn, stepOn, plainOn, plain, plainRows}
+use Rattle.alu_rules.specs.Result.{outcomeOf}
+use Rattle.plain_rules.specs.Machine.{stored, outcomeOn, stepOn, plainOn, plain, plainRows}
 
 -- ---- one word after another
 
@@ -48,9 +48,9 @@ module _ {A B : Type 0} (read : A → Register) (make : Register → A) (none : 
   step-converted : (w : ℕ) (f : List A) → map h (stepOn read make none w f) ≡ stepOn read′ make′ none′ w (map h f)
   unfolding stepOn
   step-converted w f =
-      stored-map (targetOf w) (valueOn read make none w f) f
+      stored-map (targetOf w) (make (outcomeOn read make none w f .value)) f
       ∙ ap (λ (y : B). stored (targetOf w) y (map h f))
-      (makes _ ∙ sym (λ j. make′ (resultOf w (read-at f (firstOf w .0) j) (read-at f (rs2Of w .0) j) (read-at f (rs3Of w .0) j))))
+      (makes _ ∙ sym (λ j. make′ (outcomeOf w (read-at f (firstOf w .0) j) (read-at f (rs2Of w .0) j) (read-at f (rs3Of w .0) j) .value)))
 
   pub plain-converted : (p : List ℕ) (f : List A) → map h (plainOn read make none p f) ≡ plainOn read′ make′ none′ p (map h f)
   unfolding plainOn

@@ -9,7 +9,8 @@ use Rattle.table.specs.declared.Target.{Target}
 use Rattle.table.specs.declared.Target.the-variants.{None, To}
 use Rattle.table.specs.Fields.{firstOf, rs2Of, rs3Of}
 use Rattle.table.specs.Operation.{targetOf}
-use Rattle.alu_rules.specs.Result.{resultOf}
+use Rattle.alu_rules.specs.declared.Outcome.{Outcome}
+use Rattle.alu_rules.specs.Result.{outcomeOf}
 
 -- the file with v in the register that is written, if any
 abbrev pub stored : {A : Type 0} → Target → A → List A → List A
@@ -19,12 +20,12 @@ stored (To p) v f = set f (p .0) v
 -- on a file of any kind of entry that is read as a register and made from one; `none` is read where there is no such entry
 module _ {A : Type 0} (read : A → Register) (make : Register → A) (none : A) where
   -- what a word gives from a file
-  abbrev pub valueOn : ℕ → List A → A
-  valueOn w f = make (resultOf w (read (getD f (firstOf w .0) none)) (read (getD f (rs2Of w .0) none)) (read (getD f (rs3Of w .0) none)))
+  abbrev pub outcomeOn : ℕ → List A → Outcome
+  outcomeOn w f = outcomeOf w (read (getD f (firstOf w .0) none)) (read (getD f (rs2Of w .0) none)) (read (getD f (rs3Of w .0) none))
 
   -- one instruction
   unfoldable pub stepOn : ℕ → List A → List A
-  stepOn w f = stored (targetOf w) (valueOn w f) f
+  stepOn w f = stored (targetOf w) (make (outcomeOn w f .value)) f
 
   -- one instruction after another
   unfoldable pub plainOn : List ℕ → List A → List A

@@ -1,7 +1,7 @@
 -- A lane by the words of its register. Carried by two laws over the width: digit i of a number in digits of k bits is its bits ki+k-1 to ki, and
 -- the halves of lane i of k + k bits are lanes i + i and i + i + 1 of k bits.
 -- Assumes nothing.
-use Prim.Native.Nat.{ℕ, zero, suc, _+_, _*_, _/_, _%_, _^_, _≤_, _<_}
+use Prim.Native.Nat.{ℕ, zero, suc, _+_, _*_, _/_, _%_, _^_, _<_}
 use mathlib.Core.Path.{_≡_, refl, sym, ap, ap₂, _∙_}
 use mathlib.Core.Bool.{Bool, true, false}
 use mathlib.Core.List.{List, [], _∷_}
@@ -9,7 +9,7 @@ use native.Mathlib.Omega.{arith}
 use native.Mathlib.Nat.{add-comm, mul-add, add-mul, mul-one, mul-zero, mul-suc, zero-div, zero-mod, div-one}
 use borrow.Author.Tests.{eqb-true, eqb-false}
 use lib.Dec.{eqb}
-use lib.ListN.{getD, List·getD-eq-default}
+use lib.ListN.{getD}
 use lib.Pow as pow
 use Rattle.register.specs.Halves.{low, high, half, join}
 use Rattle.register.specs.declared.Register.{Register}
@@ -46,9 +46,6 @@ unfolding lane
 word-lane i r h =
     ap (λ (n : ℕ). n / 2 ^ (32 * i) % 2 ^ 32) (number-in-words r)
     ∙ digit-at 32 i (rowOf r) (h .w0-fits, (h .w1-fits, (h .w2-fits, (h .w3-fits, tt))))
-
-pub no-word : (i : ℕ) (r : Register) → Held r → 4 ≤ i → lane 32 i r ≡ 0
-no-word i r h l = word-lane i r h ∙ List·getD-eq-default (rowOf r) 0 l
 
 -- a row whose four words are g 0 to g 3
 pub word-by-word : (g : ℕ → ℕ) (r : Register) → r .w0 ≡ g 0 → r .w1 ≡ g 1 → r .w2 ≡ g 2 → r .w3 ≡ g 3 → (n : ℕ) → n < 4 → getD (rowOf r) n 0 ≡ g n
@@ -93,7 +90,3 @@ half-lane k i r {w} e = go (eqb (i % 2) 1) refl
         let b = eqb-false (i % 2) 1 t in
         let d : i / 2 + i / 2 ≡ i = omega arith in
         ap (low k) e ∙ sym (low-lane k (i / 2) r) ∙ ap (λ (j : ℕ). lane k j r) d
-
-pub no-long : (i : ℕ) (r : Register) → Held r → 2 ≤ i → lane 64 i r ≡ 0
-no-long i r h l =
-    sym (joined-lanes 32 i r) ∙ ap₂ (join 32) (no-word (i + i + 1) r h (omega arith)) (no-word (i + i) r h (omega arith))

@@ -1,15 +1,13 @@
 // A register of 128 bits, made from and given back as bytes and rows.
 
 ghost use mathlib.Core.Path.{_≡_};
-ghost use Rattle.register.specs.Layout.{lane, zeroRegister, rowOf, ofRow, bytesOf, ofBytes, withHalfword};
+ghost use Rattle.register.specs.Layout.{zeroRegister, rowOf, ofRow, bytesOf, ofBytes, withHalfword};
 
 pub mod bytes;
 pub mod halves;
 
 use bytes::with_word;
 use bytes::word_at;
-use halves::half_of_word;
-use halves::join_words;
 use halves::put_half;
 
 // w0 has bits 31 to 0, w3 bits 127 to 96.
@@ -76,32 +74,6 @@ impl Register {
         ensures { λ r. ⌜ r ≡ rowOf self ⌝ }
     {
         [self.w0, self.w1, self.w2, self.w3]
-    }
-
-    // Word i, and 0 beyond word 3.
-    pub fn word(self, i: usize) -> u32
-        ensures { λ r. ⌜ r ≡ lane 32 i self ⌝ }
-    {
-        let row = self.to_row();
-        if i < 4 { row[i] } else { 0 }
-    }
-
-    // Halfword i, and 0 beyond halfword 7.
-    pub fn halfword(self, i: usize) -> u16
-        ensures { λ r. ⌜ r ≡ lane 16 i self ⌝ }
-    {
-        half_of_word(self.word(i / 2), i % 2 == 1)
-    }
-
-    // Long i, and 0 beyond long 1.
-    pub fn long(self, i: usize) -> u64
-        ensures { λ r. ⌜ r ≡ lane 64 i self ⌝ }
-    {
-        if i < 2 {
-            join_words(self.word(i + i + 1), self.word(i + i))
-        } else {
-            0
-        }
     }
 
     // With halfword i set to v; beyond halfword 7 there is nothing to set.

@@ -1,5 +1,6 @@
 // The rows of a unit until it refuses a cycle, and its registers.
 
+use alu_rules::Outcome;
 use console::output::print;
 use libc::STDOUT_FILENO;
 use register::Register;
@@ -51,7 +52,7 @@ fn written(number: u8, value: Register) -> Row {
             rs2: false,
             rs3: false,
         },
-        change: Change::To(Pointer(number), value),
+        change: Change::To(Pointer(number), Outcome { value }),
     }
 }
 

@@ -1,9 +1,11 @@
--- For every public function: no second answer and no second buffer fits its contract, since the contract is one equation of both.
+-- For every public function: it asks nothing and no second answer and no second buffer fits, since its contract is one equation of both and has
+-- no `requires`.
 -- Assumes nothing.
 use Prim.Native.Nat.{ℕ}
 use mathlib.Core.Path.{refl, sym, ap, _∙_}
 use mathlib.Core.List.{List}
 use Rattle.determined.specs.Determined.{Determined}
+use Rattle.determined.proofs.OneEquation.{by-value, no-requires}
 use Rattle.row.proofs.digits.tens.Kinds as tens-kinds
 use Rattle.row.proofs.digits.tens.Reads as tens-reads
 use Rattle.row.proofs.digits.units.Kinds as units-kinds
@@ -11,13 +13,16 @@ use Rattle.row.proofs.digits.units.Reads as units-reads
 use Rattle.row.proofs.write_row.Kinds as write-row-kinds
 use Rattle.row.proofs.write_row.Reads as write-row-reads
 
-pub write-row-unique : Determined 1 write-row-kinds.ps write-row-kinds.r write-row-reads.Post
-write-row-unique κs a x y v w p q =
-    let same = p ∙ sym q in
-    (ap (λ (z : ℕ × List ℕ). z .0) same, λ i. (ap (λ (z : ℕ × List ℕ). z .1) same i, v .1))
+pub write-row-unique : Determined 1 write-row-kinds.ps write-row-kinds.r write-row-reads.requires write-row-reads.Post
+write-row-unique = record {
+  asks-nothing = λ κs a. no-requires;
+  one-answer = λ κs a x y v w p q.
+      let same = p ∙ sym q in
+      (ap (λ (z : ℕ × List ℕ). z .0) same, λ i. (ap (λ (z : ℕ × List ℕ). z .1) same i, v .1));
+}
 
-pub tens-unique : Determined 0 tens-kinds.ps tens-kinds.r tens-reads.Post
-tens-unique κs a x y v w p q = (p ∙ sym q, refl)
+pub tens-unique : Determined 0 tens-kinds.ps tens-kinds.r tens-reads.requires tens-reads.Post
+tens-unique = by-value (λ κs a. no-requires) (λ κs a v w. refl)
 
-pub units-unique : Determined 0 units-kinds.ps units-kinds.r units-reads.Post
-units-unique κs a x y v w p q = (p ∙ sym q, refl)
+pub units-unique : Determined 0 units-kinds.ps units-kinds.r units-reads.requires units-reads.Post
+units-unique = by-value (λ κs a. no-requires) (λ κs a v w. refl)

@@ -100,7 +100,7 @@ fn put_value(out: &mut [u8], change: Change)
 {
     match change {
         Change::Nothing => put_hyphens(out, 32),
-        Change::To(_, v) => put_register(out, v),
+        Change::To(_, o) => put_register(out, o.value),
     }
 }
 

@@ -2,9 +2,9 @@
 -- rows computed.
 -- Assumes nothing.
 use Prim.Native.Nat.{ℕ, zero, suc, _+_, _-_, _*_, _/_, _%_, _^_, _≤_, _<_}
-use mathlib.Core.Path.{_≡_, refl, sym, ap, _∙_}
+use mathlib.Core.Path.{_≡_, refl, sym, ap, subst, _∙_}
 use mathlib.Core.Logic.{_↔_}
-use mathlib.Core.Bool.{Bool, true, false, cond}
+use mathlib.Core.Bool.{true, false, cond}
 use mathlib.Core.List.{List, [], _∷_, _++_, append-assoc}
 use native.Mathlib.Nat.{le-of-suc-le-suc, zero-add, pow-succ', one-le-pow}
 use native.Mathlib.Omega.{arith}
@@ -15,6 +15,7 @@ use lib.ListN.{length, getD, take, drop, replicate, length-drop, List·getD-map}
 use lib.Seq.{take-at, drop-at, drop-drop, length-take-le}
 use Rattle.buffer.specs.Front.{fromStart}
 use Rattle.table.specs.Refusal.{ROOM}
+use Rattle.table.proofs.Decided.{stops, passes, ends, apart, each}
 use Rattle.row_rules.specs.declared.Stage.the-variants.{Empty, Holds}
 use Rattle.row_rules.specs.declared.Change.the-variants.{To}
 use Rattle.row_rules.specs.declared.Row.{Row}
@@ -135,38 +136,35 @@ around a k p xs n h =
 module _ (r : Row) (start : ℕ) (buffer : List ℕ) where
   pub no-room : length buffer < start + rowSize → (ROOM, buffer) ≡ rowAt r start buffer
   unfolding rowAt
-  no-room h = rw (lt-ltb _ _ h)
+  no-room h = stops _ _ (lt-ltb _ _ h)
 
   pub row-fits : start + rowSize ≤ length buffer → (0, fromStart start (rowText r) buffer) ≡ rowAt r start buffer
   unfolding rowAt
-  row-fits h = rw (le-ltb _ _ h)
+  row-fits h = passes _ _ _ (le-ltb _ _ h) ends
 
-is-room : (t : Bool) (x y : List ℕ) → cond {A = ℕ × List ℕ} t (ROOM, x) (0, y) .0 ≡ ROOM → t ≡ true
-is-room true x y e = refl
-is-room false x y e = absurd (omega arith)
-
-module _ (r : Row) (start : ℕ) (buffer : List ℕ) where
   -- "A row is written into the lent buffer from a stated start"
   pub row-there : start + rowSize ≤ length buffer → (rowAt r start buffer .0 ≡ 0) × (take rowSize (drop start (rowAt r start buffer .1)) ≡ rowText r)
-  row-there h = rw (← (row-fits r start buffer h)) (refl, around start rowSize (rowText r) buffer (row-size r) h .1)
+  row-there h = rw (← (row-fits h)) (refl, around start rowSize (rowText r) buffer (row-size r) h .1)
 
   -- "bytes before and after untouched"
   pub before-and-after : start + rowSize ≤ length buffer
       → (take start (rowAt r start buffer .1) ≡ take start buffer)
       × (drop (start + rowSize) (rowAt r start buffer .1) ≡ drop (start + rowSize) buffer)
-  before-and-after h = let a = around start rowSize (rowText r) buffer (row-size r) h in rw (← (row-fits r start buffer h)) (a .0, a .2)
+  before-and-after h = let a = around start rowSize (rowText r) buffer (row-size r) h in rw (← (row-fits h)) (a .0, a .2)
 
   -- "too few bytes from the stated start in a lent buffer, or a start beyond its end"
   pub room-exactly : (rowAt r start buffer .0 ≡ ROOM) ↔ (length buffer < start + rowSize)
   unfolding rowAt
   room-exactly = (
-    λ e. ltb-true _ _ (is-room _ buffer (fromStart start (rowText r) buffer) e),
-    λ h. sym (ap (λ (z : ℕ × List ℕ). z .0) (no-room r start buffer h)),
+    apart _ _ (λ (z : ℕ × List ℕ). z .0 ≡ ROOM → length buffer < start + rowSize) _ _ (λ h e. ltb-true _ _ h)
+        (λ _. subst (λ (z : ℕ × List ℕ). z .0 ≡ ROOM → length buffer < start + rowSize) ends (λ e. absurd (omega arith))),
+    λ h. sym (ap (λ (z : ℕ × List ℕ). z .0) (no-room h)),
   )
 
   -- "buffers stay unaltered"
-  pub refused-unaltered : rowAt r start buffer .0 ≡ ROOM → rowAt r start buffer .1 ≡ buffer
-  refused-unaltered e = sym (ap (λ (z : ℕ × List ℕ). z .1) (no-room r start buffer (room-exactly .0 e)))
+  pub refused-unaltered : (rowAt r start buffer .0 ≡ 0 → ⊥) → rowAt r start buffer .1 ≡ buffer
+  unfolding rowAt
+  refused-unaltered = each (λ (z : ℕ × List ℕ). (z .0 ≡ 0 → ⊥) → z .1 ≡ buffer) _ _ (λ h. refl, tt) (λ h. absurd (h refl))
 
 -- ---- two rows, computed
 
@@ -178,7 +176,7 @@ pub row-sixty-seven : rowText (record {
   execute = Empty;
   write = Holds 0x1234567;
   flags = record { rs1 = false; rs2 = false; rs3 = true };
-  change = To (record { 0 = 31 }) (record { w0 = 0xFEDCBA98; w1 = 0x76543210; w2 = 0x1234567; w3 = 0x89ABCDEF });
+  change = To (record { 0 = 31 }) (record { value = record { w0 = 0xFEDCBA98; w1 = 0x76543210; w2 = 0x1234567; w3 = 0x89ABCDEF } });
 })
     ≡ 54 ∷ 55
     ∷ 32 ∷ 48 ∷ 65 ∷ 66 ∷ 67 ∷ 68 ∷ 69 ∷ 70
@@ -202,7 +200,7 @@ pub row-four : rowText (record {
   execute = Holds 0x1810422;
   write = Holds 0xA1;
   flags = record { rs1 = true; rs2 = true; rs3 = false };
-  change = To (record { 0 = 1 }) (record { w0 = 5; w1 = 0; w2 = 0; w3 = 0 });
+  change = To (record { 0 = 1 }) (record { value = record { w0 = 5; w1 = 0; w2 = 0; w3 = 0 } });
 })
     ≡ 48 ∷ 52
     ∷ 32 ∷ 45 ∷ 45 ∷ 45 ∷ 45 ∷ 45 ∷ 45 ∷ 45

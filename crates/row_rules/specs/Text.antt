@@ -7,6 +7,7 @@ use lib.Dec.{ltb}
 use lib.ListN.{length, getD, replicate}
 use Rattle.buffer.specs.Front.{fromStart}
 use Rattle.register.specs.declared.Register.{Register}
+use Rattle.table.specs.Decided.{decided}
 use Rattle.table.specs.Refusal.{ROOM}
 use Rattle.row_rules.specs.declared.Stage.{Stage}
 use Rattle.row_rules.specs.declared.Stage.the-variants.{Empty, Holds}
@@ -46,7 +47,7 @@ flagsText f = flagText (f .rs1) ∷ flagText (f .rs2) ∷ flagText (f .rs3) ∷ 
 -- "the register written (two decimal digits, or `--`)"
 unfoldable pub numberText : Change → List ℕ
 numberText Nothing = hyphens 2
-numberText (To p v) = twoDigits (p .0)
+numberText (To p o) = twoDigits (p .0)
 
 -- "its new value (32 upper-case hex digits, or 32 hyphens)"; "Bit 127 is leftmost"
 unfoldable pub registerText : Register → List ℕ
@@ -54,7 +55,7 @@ registerText v = hexDigits 8 (v .w3) ++ hexDigits 8 (v .w2) ++ hexDigits 8 (v .w
 
 unfoldable pub valueText : Change → List ℕ
 valueText Nothing = hyphens 32
-valueText (To p v) = registerText v
+valueText (To p o) = registerText (o .value)
 
 -- "Fields, with one space between": every field but the first stands behind a space
 abbrev pub behindSpace : List ℕ → List ℕ
@@ -79,4 +80,7 @@ rowSize = 75
 -- "A row is written into the lent buffer from a stated start"; 9 with "too few bytes from the stated start in a lent buffer, or a start beyond its end": the
 -- answer, and the buffer afterwards
 unfoldable pub rowAt : Row → ℕ → List ℕ → ℕ × List ℕ
-rowAt r start buffer = cond (ltb (length buffer) (start + rowSize)) (ROOM, buffer) (0, fromStart start (rowText r) buffer)
+rowAt r start buffer =
+    decided
+    ((ltb (length buffer) (start + rowSize), (ROOM, buffer)) ∷ [])
+    (0, fromStart start (rowText r) buffer)

@@ -1,6 +1,6 @@
 // What a row of the trace says of one cycle. Its text is defined in `specs/`. There is no code.
 
-use register::Register;
+use alu_rules::Outcome;
 use table::Pointer;
 
 // The word in a stage.
@@ -18,12 +18,12 @@ pub struct Flags {
     pub rs3: bool,
 }
 
-// The register that WB writes, and its new value.
+// The register that WB writes, and what EX has made for it.
 pub enum Change {
     // WB writes nothing: hyphens
     Nothing,
-    // the register and its new value
-    To(Pointer, Register),
+    // the register, and the outcome with its new value
+    To(Pointer, Outcome),
 }
 
 // All that a row says: the cycle's number, the words in IF, ID, EX and WB, the flags, and what WB writes.

@@ -1,4 +1,5 @@
 pub mod Rows
 pub mod Places
+pub mod Decided
 pub mod Theorems
 pub mod Unique

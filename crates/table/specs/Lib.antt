@@ -1,3 +1,4 @@
 pub mod Fields
 pub mod Operation
 pub mod Refusal
+pub mod Decided

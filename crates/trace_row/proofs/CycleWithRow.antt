@@ -1,9 +1,11 @@
--- What a cycle with a row answers, from what the cycle and the writer of the row give. Carried by rewriting each test as it came out.
+-- What a cycle with a row answers, from what the cycle and the writer of the row give. Carried by the laws of decisions.
 -- Assumes nothing.
-use Rattle.unit_rules.proofs.Shared.{ℕ, _+_, _≡_, refl, sym, ap, _∙_, Bool, true, false, List, arith, ltb, length, ROOM, cycleOf, drainedOf}
+use Rattle.unit_rules.proofs.Shared.{ℕ, _+_, _≡_, refl, sym, ap, _∙_, Bool, true, false, List, arith, ltb-true, ltb-false, ltb, length, ROOM, cycleOf, drainedOf}
 use Rattle.unit_rules.proofs.Shared.{wellMadeOf, cycledOf, inFlightOf}
+use Rattle.table.proofs.Decided.{stops, passes, ends, denied, not-denied}
 use Rattle.row_rules.specs.declared.Row.{Row}
 use Rattle.row_rules.specs.Text.{rowSize, rowAt}
+use Rattle.row_rules.proofs.Theorems.{no-room, row-fits}
 use Rattle.unit_rules.specs.declared.Unit.{Unit}
 use Rattle.unit_rules.specs.declared.Cycled.{Cycled}
 use Rattle.unit_rules.specs.declared.InFlight.{InFlight}
@@ -17,9 +19,10 @@ module _ (u : Unit) (start : ℕ) (buffer : List ℕ) {after : Cycled} (cycled :
   not-cycled h = go (wellMadeOf u) refl (drainedOf u) refl
     where
       go : (t : Bool) → wellMadeOf u ≡ t → (s : Bool) → drainedOf u ≡ s → (after, buffer) ≡ tracedOf u start buffer
-      go false q s p = rw (cycled, q)
-      go true q true p = rw (cycled, q, p)
-      go true q false p = absurd (h (ap (λ (c : Cycled). c .refusal) cycled ∙ rw (q, p)))
+      go false q s p = ap (λ (a : Cycled). (a, buffer)) (cycled ∙ sym (stops _ _ (denied q))) ∙ stops _ _ (denied q)
+      go true q true p =
+          ap (λ (a : Cycled). (a, buffer)) (cycled ∙ sym (passes _ _ _ (not-denied q) (stops _ _ p))) ∙ passes _ _ _ (not-denied q) (stops _ _ p)
+      go true q false p = absurd (h (ap (λ (c : Cycled). c .refusal) (cycled ∙ sym (passes _ _ _ (not-denied q) (passes _ _ _ p ends)))))
 
   module _ (ok : after .refusal ≡ 0) {l : InFlight} {row : Row} {number : ℕ} {new : List ℕ}
       (at-start : l ≡ inFlightOf u) (said : row ≡ shownBy (after .unit .cycle) (after .unit .fetched) (l .fetched) (l .decoded) (l .executed)) (put : (number, new) ≡ rowAt row start buffer) where
@@ -37,24 +40,24 @@ module _ (u : Unit) (start : ℕ) (buffer : List ℕ) {after : Cycled} (cycled :
     put-so = put ∙ ap (λ (r : Row). rowAt r start buffer) its-row
 
     pub row-refused : (number ≡ 0 → ⊥) → _≡_ {A = Cycled × List ℕ} (record { refusal = number; unit = u }, new) (tracedOf u start buffer)
-    unfolding tracedOf rowAt
+    unfolding tracedOf
     row-refused h = go (ltb (length buffer) (start + rowSize)) refl
       where
         go : (t : Bool) → ltb (length buffer) (start + rowSize) ≡ t → _≡_ {A = Cycled × List ℕ} (record { refusal = number; unit = u }, new) (tracedOf u start buffer)
         go true q =
-            let same = rw q at put-so in
-            rw (going .made, going .more, q) (λ i. (record { refusal = same i .0; unit = u }, same i .1))
-        go false q = let same = rw q at put-so in absurd (h (ap (λ (z : ℕ × List ℕ). z .0) same))
+            let same = put-so ∙ sym (no-room (shownOf u) start buffer (ltb-true _ _ q)) in
+            (λ i. (record { refusal = same i .0; unit = u }, same i .1))
+            ∙ passes _ _ _ (not-denied (going .made)) (passes _ _ _ (going .more) (stops _ _ q))
+        go false q = absurd (h (ap (λ (z : ℕ × List ℕ). z .0) (put-so ∙ sym (row-fits (shownOf u) start buffer (ltb-false _ _ q)))))
 
     pub row-put : number ≡ 0 → (after, new) ≡ tracedOf u start buffer
-    unfolding tracedOf rowAt
+    unfolding tracedOf
     row-put h = go (ltb (length buffer) (start + rowSize)) refl
       where
         go : (t : Bool) → ltb (length buffer) (start + rowSize) ≡ t → (after, new) ≡ tracedOf u start buffer
         go true q =
-            let same = rw q at put-so in
-            let room : number ≡ ROOM = ap (λ (z : ℕ × List ℕ). z .0) same in
+            let room : number ≡ ROOM = ap (λ (z : ℕ × List ℕ). z .0) (put-so ∙ sym (no-room (shownOf u) start buffer (ltb-true _ _ q))) in
             absurd (omega arith)
         go false q =
-            let same = rw q at put-so in
-            rw (going .made, going .more, q) (λ i. (one-cycle i, same i .1))
+            let same = put-so ∙ sym (row-fits (shownOf u) start buffer (ltb-false _ _ q)) in
+            (λ i. (one-cycle i, same i .1)) ∙ passes _ _ _ (not-denied (going .made)) (passes _ _ _ (going .more) (passes _ _ _ q ends))

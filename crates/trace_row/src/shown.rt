@@ -3,7 +3,7 @@
 ghost use mathlib.Core.Path.{_≡_};
 ghost use Rattle.unit_rules.specs.Cycle.{isTarget};
 ghost use Rattle.trace_rules.specs.RowOfCycle.{stageOf, readsRs1, writesTo, flagOf, flagsFor, flagsOf, changeTo, changeOf, shownBy};
-use register::Register;
+use alu_rules::Outcome;
 use row_rules::Change;
 use row_rules::Flags;
 use row_rules::Row;
@@ -97,12 +97,12 @@ fn flags(wb: ExWb, ex: IdEx) -> Flags
     }
 }
 
-fn change_to(target: Target, value: Register) -> Change
-    ensures { λ r. ⌜ r ≡ changeTo target value ⌝ }
+fn change_to(target: Target, outcome: Outcome) -> Change
+    ensures { λ r. ⌜ r ≡ changeTo target outcome ⌝ }
 {
     match target {
         Target::None => Change::Nothing,
-        Target::To(p) => Change::To(p, value),
+        Target::To(p) => Change::To(p, outcome),
     }
 }
 
@@ -113,7 +113,7 @@ fn change(latch: ExWb) -> Change
         ExWb::Empty => Change::Nothing,
         ExWb::Holds(i, o) => {
             let target = i.target;
-            change_to(target, o.value)
+            change_to(target, o)
         }
     }
 }

@@ -19,14 +19,14 @@ unfolding endText twoDigits
 end-long c = refl
 
 module _ (u : Unit) (made : wellMadeOf u ≡ true) where
-  cycles-left : cyclesLeft u ≡ lastOf (u .n .0) - u .cycle
+  cycles-left : cyclesLeft u ≡ lastOf (u .program .n .0) - u .cycle
   cycles-left = ap (λ (r : Ran). r .made) (ran u (well-made-says u made) mostCycles) ∙ omega (arith, last-small u made)
 
-  pub trace-is : {last : ℕ} → last ≡ lastOf (u .n .0) → rowsOf (last - u .cycle) u ++ endText (last - u .cycle) ≡ traceText u
+  pub trace-is : {last : ℕ} → last ≡ lastOf (u .program .n .0) → rowsOf (last - u .cycle) u ++ endText (last - u .cycle) ≡ traceText u
   unfolding traceText
   trace-is e = rw (e, cycles-left)
 
-  pub trace-long : {last : ℕ} → last ≡ lastOf (u .n .0) → length (traceText u) ≡ rowSize * (last - u .cycle) + 7
+  pub trace-long : {last : ℕ} → last ≡ lastOf (u .program .n .0) → length (traceText u) ≡ rowSize * (last - u .cycle) + 7
   trace-long {last} e =
       let c = last - u .cycle in
       rw (← (trace-is e)) (omega (arith, length-append (rowsOf c u) (endText c), rows-long c u, end-long c))

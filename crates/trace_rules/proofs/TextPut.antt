@@ -5,18 +5,19 @@ use Rattle.trace_rules.proofs.Shared.{well-made-started, TextAnswer, ro
 use Rattle.unit_rules.proofs.Shared.{ℕ, _+_, _-_, _*_, _≤_, _<_, _≡_, sym, ap, _∙_, Bool, true, false, List, arith, lt-ltb, le-ltb}
 use Rattle.unit_rules.proofs.Shared.{eq-eqb, ne-eqb, leb-true, leb-false, leb, length, ROOM}
 use Rattle.unit_rules.proofs.Shared.{instructionsAt, readOf, lastOf, wellMadeOf, freshOf, startOf}
+use Rattle.table.proofs.Decided.{stops, passes, ends}
 use Rattle.unit_rules.specs.declared.Started.{Started}
 use Rattle.trace_rules.proofs.TextLengths.{rows-long, trace-is, trace-long}
 
 module _ (text buffer : List ℕ) where
   pub no-room-for : {r : TextAnswer} → r ≡ record { refusal = ROOM; size = 0 } → length buffer < length text → (r, buffer) ≡ putOf text buffer
   unfolding putOf
-  no-room-for e h = rw (e, lt-ltb (length buffer) (length text) h)
+  no-room-for e h = rw e (stops _ _ (lt-ltb (length buffer) (length text) h))
 
   pub text-put : {new : List ℕ} {size : ℕ} → length text ≤ length buffer → new ≡ atFront text buffer → size ≡ length text
       → _≡_ {A = TextAnswer × List ℕ} (record { refusal = 0; size = size }, new) (putOf text buffer)
   unfolding putOf
-  text-put h e g = rw (e, g, le-ltb (length buffer) (length text) h)
+  text-put h e g = rw (e, g) (passes _ _ _ (le-ltb (length buffer) (length text) h) ends)
 
   -- by the test of the room as it came out
   module _ {size : ℕ} (counted : size ≡ length text) {t : Bool} (test : t ≡ leb (0 + size) (length buffer)) where
@@ -31,11 +32,11 @@ module _ (text buffer : List ℕ) where
     not-put h e = no-room-for e (omega (arith, leb-false (0 + size) (length buffer) (sym test ∙ h)))
 
 -- a trace: its rows, and END at the front of the part behind them
-module _ (u : Unit) (made : wellMadeOf u ≡ true) {last : ℕ} (end : last ≡ lastOf (u .n .0)) where
+module _ (u : Unit) (made : wellMadeOf u ≡ true) {last : ℕ} (end : last ≡ lastOf (u .program .n .0)) where
   pub not-past : u .cycle ≤ last
   not-past = let reached = well-made-says u made .reached in omega arith
 
-  pub all-left : u .cycle + (last - u .cycle) ≤ lastOf (u .n .0)
+  pub all-left : u .cycle + (last - u .cycle) ≤ lastOf (u .program .n .0)
   all-left = omega (arith, not-past)
 
   module _ (buffer : List ℕ) {t : Bool} (test : t ≡ leb (rowSize * (last - u .cycle) + 7) (length buffer)) where

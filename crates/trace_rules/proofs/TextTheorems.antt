@@ -2,10 +2,12 @@
 -- Assumes nothing.
 use Rattle.trace_rules.proofs.Shared.{atFront, twoDigits, last-small, Unit, started-is, TextAnswer, rowsOf, endText, refusedText, textFor}
 use Rattle.trace_rules.proofs.Shared.{jobText, putOf, writeTextOf, largestText, wholeTextOf, bytesToRead}
-use Rattle.unit_rules.proofs.Shared.{ℕ, _-_, _≤_, _≡_, refl, sym, ap, _∙_, Bool, true, false, List, [], _∷_, _++_, arith, ltb-true}
+use Rattle.unit_rules.proofs.Shared.{ℕ, _-_, _≤_, _≡_, refl, sym, ap, subst, _∙_, Bool, true, false, List, [], _∷_, _++_, arith, ltb-true}
 use Rattle.unit_rules.proofs.Shared.{ltb-false, eqb-true, eqb-false, ltb, eqb, length, take, replicate, length-append, length-drop, length-replicate}
-use Rattle.unit_rules.proofs.Shared.{take-at, take-all, ROOM, firstBad, ReadJob, LARGEST, headerOf, testedOf, bodyOf, lastOf, freshOf, startedBy}
+use Rattle.unit_rules.proofs.Shared.{take-at, take-all, firstBad, ReadJob, LARGEST, headerOf, testedOf, bodyOf, lastOf, freshOf, startedBy}
 use Rattle.unit_rules.proofs.Shared.{startOf}
+use Rattle.table.specs.Decided.{decided}
+use Rattle.table.proofs.Decided.{ends, apart, each}
 use Rattle.job_rules.proofs.TooLong.{first-bytes-decide}
 use Rattle.trace_rules.proofs.TextLengths.{trace-is, trace-long, refused-long}
 use Rattle.trace_rules.proofs.TextPut.{text-put, text-refused, text-accepted, started-made}
@@ -18,16 +20,16 @@ refused-text file h = sym (text-refused file refl refl h)
 
 -- "prints one row a cycle and then a line of `END` and the cycle count": n + 3 rows, and none where n is 0
 pub accepted-text : (file : List ℕ) → startOf file freshOf .refusal ≡ 0
-    → jobText file ≡ rowsOf (lastOf (startOf file freshOf .unit .n .0)) (startOf file freshOf .unit) ++ endText (lastOf (startOf file freshOf .unit .n .0))
+    → jobText file ≡ rowsOf (lastOf (startOf file freshOf .unit .program .n .0)) (startOf file freshOf .unit) ++ endText (lastOf (startOf file freshOf .unit .program .n .0))
 accepted-text file h =
     let u = startOf file freshOf .unit in
     let none-made : u .cycle ≡ 0 = ap (λ (v : Unit). v .cycle) (started-is file freshOf h) in
-    let all : lastOf (u .n .0) - u .cycle ≡ lastOf (u .n .0) = omega arith in
+    let all : lastOf (u .program .n .0) - u .cycle ≡ lastOf (u .program .n .0) = omega arith in
     sym (text-accepted file refl refl h) ∙ sym (trace-is u (started-made file refl refl h) refl) ∙ ap (λ (c : ℕ). rowsOf c u ++ endText c) all
 
 -- the file of eight bytes, a job with no instructions: END 00
 pub empty-job : jobText (0 ∷ 0 ∷ 0 ∷ 0 ∷ 8 ∷ 0 ∷ 8 ∷ 0 ∷ []) ≡ 69 ∷ 78 ∷ 68 ∷ 32 ∷ 48 ∷ 48 ∷ 10 ∷ []
-unfolding endText rowsOf twoDigits startOf headerOf testedOf bodyOf firstBad
+unfolding endText rowsOf twoDigits startOf headerOf testedOf bodyOf decided firstBad
 empty-job = accepted-text (0 ∷ 0 ∷ 0 ∷ 0 ∷ 8 ∷ 0 ∷ 8 ∷ 0 ∷ []) refl
 
 -- the first so many bytes of a file decide its text: a file that is too long is refused as they are
@@ -74,17 +76,16 @@ whole-length file =
 module _ (file buffer : List ℕ) where
   pub size-fits : writeTextOf file buffer .0 .size ≤ length buffer
   unfolding putOf
-  size-fits = go (ltb (length buffer) (length (jobText file))) refl
+  size-fits =
+      apart _ _ Fits _ _ (λ _. omega arith) (λ h. subst Fits ends (ltb-false (length buffer) (length (jobText file)) h))
     where
-      go : (t : Bool) → ltb (length buffer) (length (jobText file)) ≡ t → writeTextOf file buffer .0 .size ≤ length buffer
-      go true q = rw q (omega arith)
-      go false q = rw q (ltb-false (length buffer) (length (jobText file)) q)
+      Fits : TextAnswer × List ℕ → Type 0
+      Fits a = a .0 .size ≤ length buffer
 
   -- "buffers stay unaltered"
-  pub refused-unaltered : writeTextOf file buffer .0 .refusal ≡ ROOM → writeTextOf file buffer .1 ≡ buffer
+  pub refused-unaltered : (writeTextOf file buffer .0 .refusal ≡ 0 → ⊥) → writeTextOf file buffer .1 ≡ buffer
   unfolding putOf
-  refused-unaltered e = go (ltb (length buffer) (length (jobText file))) refl
+  refused-unaltered = each Kept _ _ (λ h. refl, tt) (λ h. absurd (h refl))
     where
-      go : (t : Bool) → ltb (length buffer) (length (jobText file)) ≡ t → writeTextOf file buffer .1 ≡ buffer
-      go true q = rw q
-      go false q = let no = rw q at e in absurd (omega arith)
+      Kept : TextAnswer × List ℕ → Type 0
+      Kept a = (a .0 .refusal ≡ 0 → ⊥) → a .1 ≡ buffer

@@ -1,11 +1,16 @@
 -- For the reader of specs/: what a row says is what happened. Carried by where the latches are (`Positions` of `unit_rules`) and by the cases of a latch.
 -- Assumes nothing.
-use Rattle.unit_rules.proofs.Shared.{ℕ, suc, _+_, _-_, _<_, _≤_, _≡_, refl, sym, ap, subst, _∙_, _⊎_, ⊎-elim, Bool, true, false, cond, _&&_}
-use Rattle.unit_rules.proofs.Shared.{and-false, List, arith, leb-false, lt-leb, ltb, leb, length, getD, take, Register, Pointer, Target, None, isLi}
+use Rattle.unit_rules.proofs.Shared.{ℕ, zero, suc, _+_, _-_, _<_, _≤_, _≡_, refl, sym, ap, subst, _∙_, _⊎_, ⊎-elim, Bool, true, false, cond, _&&_}
+use Rattle.unit_rules.proofs.Shared.{and-false, List, [], _∷_, map, arith, leb-false, lt-ltb, lt-leb, ltb, length, take, DRAINED, ROOM, Register, Pointer, Target, None, isLi}
 use Rattle.unit_rules.proofs.Shared.{rdOf, firstOf, rs2Of, rs3Of, Operation, operationOf, readsOf, takesSecond, takesThird, isNop, targetOf, stored}
-use Rattle.unit_rules.proofs.Shared.{plain, instructionsAt, readOf, programOf, instructionOf, isTarget, afterWB, afterIF, cycleOf, inDecoded}
-use Rattle.unit_rules.proofs.Shared.{inExecuted, lastOf, heldOf, drainedOf, wellMadeOf, registersSet, startOf, cycledOf, Whole, afterCalls}
+use Rattle.unit_rules.proofs.Shared.{plain, instructionsAt, readOf, linesOf, instructionOf, instructionAt, fetchedIn, isTarget, afterWB, cycleOf, inDecoded}
+use Rattle.unit_rules.proofs.Shared.{inExecuted, lastOf, drainedOf, wellMadeOf, registersSet, startOf, cycledOf, Whole, afterCalls}
 use Rattle.table.specs.declared.Target.the-variants.{To as ToRegister}
+use Rattle.table.specs.Operation.{multiplyRow, shortRows}
+use Rattle.table.proofs.Rows.{each-choice}
+use Rattle.table.proofs.Decided.{stops, passes, ends, apart, each, not-denied}
+use Rattle.alu_rules.specs.declared.Outcome.{Outcome}
+use Rattle.job_rules.specs.declared.Program.{Program}
 use Rattle.row_rules.specs.declared.Stage.{Stage}
 use Rattle.row_rules.specs.declared.Stage.the-variants as In
 use Rattle.row_rules.specs.declared.Change.{Change}
@@ -20,9 +25,9 @@ use Rattle.unit_rules.specs.declared.ExWb.{ExWb}
 use Rattle.unit_rules.specs.declared.ExWb.the-variants as EX/WB
 use Rattle.unit_rules.specs.declared.Unit.{Unit}
 use Rattle.unit_rules.specs.declared.Cycled.{Cycled}
-use Rattle.unit_rules.proofs.Positions.{placed-cycle, held-later, drained-is}
+use Rattle.unit_rules.proofs.Positions.{placed-cycle, drained-is}
 use Rattle.unit_rules.proofs.WellMade.{well-made-says, last-small}
-use Rattle.unit_rules.proofs.Demand3.{demand3-registers, demand3-cycle-answers}
+use Rattle.unit_rules.proofs.Demand3.{demand3-number, demand3-registers, demand3-cycle-answers}
 use Rattle.trace_rules.proofs.Going.{goes}
 use Rattle.trace_rules.specs.RowOfCycle.{stageOf, readsRs1, writesTo, flagsOf, changeTo, changeOf, shownBy, shownOf}
 use Rattle.trace_rules.specs.Call.{tracedOf}
@@ -30,22 +35,27 @@ use Rattle.trace_rules.specs.Happened.{changedBy, isNothing, writesNothi
 
 -- ---- the stages
 
--- "in cycle c, counted from 1 at the start, IF, ID, EX and WB hold instructions c-1, c-2, c-3 and c-4 (from 0), or nothing outside 0 .. n-1"
+-- "in cycle c, counted from 1 at the start, IF, ID, EX and WB hold instructions c-1, c-2, c-3 and c-4 (from 0), or nothing outside 0 .. n-1":
+-- what was fetched in cycles c, c-1, c-2 and c-3
 pub row-stages : (u : Unit) → wellMadeOf u ≡ true
-    → (shownOf u .cycle ≡ u .cycle + 1)
-    × (shownOf u .fetch ≡ stageOf (heldOf (u .program) (u .n .0) 1 (u .cycle + 1)))
-    × (shownOf u .decode ≡ stageOf (heldOf (u .program) (u .n .0) 2 (u .cycle + 1)))
-    × (shownOf u .execute ≡ stageOf (heldOf (u .program) (u .n .0) 3 (u .cycle + 1)))
-    × (shownOf u .write ≡ stageOf (heldOf (u .program) (u .n .0) 4 (u .cycle + 1)))
+    → (let c = u .cycle + 1 in
+    (shownOf u .cycle ≡ c)
+    × (shownOf u .fetch ≡ stageOf (fetchedIn (u .program) c))
+    × (shownOf u .decode ≡ stageOf (fetchedIn (u .program) (c - 1)))
+    × (shownOf u .execute ≡ stageOf (fetchedIn (u .program) (c - 2)))
+    × (shownOf u .write ≡ stageOf (fetchedIn (u .program) (c - 3))))
 unfolding shownBy cycleOf
 row-stages u made =
     let h = well-made-says u made .placed in
-    let later = held-later (u .program) (u .n .0) in (
+    let one-ago : u .cycle ≡ u .cycle + 1 - 1 = omega arith in
+    let two-ago : u .cycle - 1 ≡ u .cycle + 1 - 2 = omega arith in
+    let three-ago : u .cycle - 2 ≡ u .cycle + 1 - 3 = omega arith in
+    let fetched : ℕ → Stage = λ c. stageOf (fetchedIn (u .program) c) in (
       refl,
       ap stageOf (placed-cycle u h .in-IF/ID),
-      ap stageOf (h .in-IF/ID ∙ later 1 (u .cycle)),
-      ap stageOf (h .in-ID/EX ∙ later 2 (u .cycle)),
-      ap stageOf (h .in-EX/WB ∙ later 3 (u .cycle)),
+      ap stageOf (h .in-IF/ID) ∙ ap fetched one-ago,
+      ap stageOf (h .in-ID/EX) ∙ ap fetched two-ago,
+      ap stageOf (h .in-EX/WB) ∙ ap fetched three-ago,
     )
 
 -- "cycle (two decimal digits, 67 at most)"
@@ -53,7 +63,7 @@ pub row-cycle : (u : Unit) → cycledOf u .refusal ≡ 0 → shownOf u .cycle �
 unfolding shownBy
 row-cycle u e =
     let going = goes u e in
-    let more = leb-false (lastOf (u .n .0)) (u .cycle) (sym (drained-is u (well-made-says u (going .made) .placed)) ∙ going .more) in
+    let more = leb-false (lastOf (u .program .n .0)) (u .cycle) (sym (drained-is u (well-made-says u (going .made) .placed)) ∙ going .more) in
     omega (arith, more, last-small u (going .made))
 
 -- ---- the register written, and its new value
@@ -62,7 +72,7 @@ change-by : (latch : ExWb) (f : List Register) → changedBy (changeOf latch) f 
 change-by EX/WB.Empty f = refl
 change-by (EX/WB.Holds i o) f = go (i .target)
   where
-    go : (t : Target) → changedBy (changeTo t (o .value)) f ≡ stored t (o .value) f
+    go : (t : Target) → changedBy (changeTo t o) f ≡ stored t (o .value) f
     go None = refl
     go (ToRegister p) = refl
 
@@ -79,23 +89,20 @@ heldIn (IF/ID.Holds i) = i
 abbrev OfItsWord : IfId → Type 0
 OfItsWord z = heldIn z ≡ instructionOf (heldIn z .word)
 
-held-of-its-word : (p : List ℕ) (n k c : ℕ) → OfItsWord (heldOf p n k c)
-held-of-its-word p n k c = held (leb k c)
+fetched-of-its-word : (p : Program) (c : ℕ) → OfItsWord (fetchedIn p c)
+fetched-of-its-word p zero = refl
+fetched-of-its-word p (suc k) = go (ltb k (p .n .0))
   where
-    fetched : (t : Bool) → OfItsWord (cond t (IF/ID.Holds (instructionOf (getD p (c - k) 0))) IF/ID.Empty)
-    fetched true = refl
-    fetched false = refl
-
-    held : (t : Bool) → OfItsWord (cond t (afterIF p n (c - k)) IF/ID.Empty)
-    held true = fetched (ltb (c - k) n)
-    held false = refl
+    go : (t : Bool) → OfItsWord (cond t (IF/ID.Holds (instructionAt p k)) IF/ID.Empty)
+    go true = refl
+    go false = refl
 
 nothing-of : (latch : ExWb) → OfItsWord (inExecuted latch) → isNothing (changeOf latch) ≡ writesNothing (stageOf (inExecuted latch))
 unfolding targetOf
 nothing-of EX/WB.Empty e = refl
 nothing-of (EX/WB.Holds i o) e = rw (ap (λ (j : Instruction). j .target) e) (go (isNop (i .word)))
   where
-    go : (t : Bool) → isNothing (changeTo (cond t None (ToRegister (rdOf (i .word)))) (o .value)) ≡ t
+    go : (t : Bool) → isNothing (changeTo (cond t None (ToRegister (rdOf (i .word)))) o) ≡ t
     go true = refl
     go false = refl
 
@@ -104,17 +111,17 @@ pub row-nothing : (u : Unit) → wellMadeOf u ≡ true → isNothing (shownOf u 
 unfolding shownBy
 row-nothing u made =
     let here = well-made-says u made .placed .in-EX/WB in
-    nothing-of (u .executed) (subst OfItsWord (sym here) (held-of-its-word (u .program) (u .n .0) 3 (u .cycle)))
+    nothing-of (u .executed) (subst OfItsWord (sym here) (fetched-of-its-word (u .program) (u .cycle - 2)))
 
 -- ---- the flags
 
-shows-to : (target : Target) (v : Register) (p : Pointer) → isTarget target p ≡ shows (changeTo target v) p
-shows-to None v p = refl
-shows-to (ToRegister q) v p = refl
+shows-to : (target : Target) (o : Outcome) (p : Pointer) → isTarget target p ≡ shows (changeTo target o) p
+shows-to None o p = refl
+shows-to (ToRegister q) o p = refl
 
 shows-of : (latch : ExWb) (p : Pointer) → writesTo latch p ≡ shows (changeOf latch) p
 shows-of EX/WB.Empty p = refl
-shows-of (EX/WB.Holds i o) p = shows-to (i .target) (o .value) p
+shows-of (EX/WB.Holds i o) p = shows-to (i .target) o p
 
 flags-by : (wb : ExWb) (ex : IdEx) → OfItsWord (inDecoded ex) → flagsOf wb ex ≡ flagsShown (stageOf (inDecoded ex)) (changeOf wb)
 flags-by wb ID/EX.Empty e = refl
@@ -136,7 +143,31 @@ pub row-flags : (u : Unit) → wellMadeOf u ≡ true → shownOf u .flags ≡ fl
 unfolding shownBy
 row-flags u made =
     let here = well-made-says u made .placed .in-ID/EX in
-    flags-by (u .executed) (u .decoded) (subst OfItsWord (sym here) (held-of-its-word (u .program) (u .n .0) 2 (u .cycle)))
+    flags-by (u .executed) (u .decoded) (subst OfItsWord (sym here) (fetched-of-its-word (u .program) (u .cycle - 1)))
+
+-- which of rs1, rs2 and rs3 raise a flag: the "reads" column for each of the 25 rows, and nothing for li, which "has no rs1, rs2 or rs3"
+abbrev Fields : Type 0
+Fields = Bool × Bool × Bool
+
+abbrev none : Fields
+none = (false, false, false)
+
+abbrev one : Fields
+one = (true, false, false)
+
+abbrev two : Fields
+two = (true, true, false)
+
+abbrev three : Fields
+three = (true, true, true)
+
+abbrev raisedBy : Operation → Fields
+raisedBy o = (readsRs1 (readsOf o), takesSecond (readsOf o), takesThird (readsOf o))
+
+pub flag-columns : (raisedBy Operation.li ≡ none)
+    × ((long subtract high : Bool) → raisedBy (multiplyRow long subtract high) ≡ three)
+    × (map raisedBy shortRows ≡ (none ∷ one ∷ two ∷ one ∷ two ∷ two ∷ one ∷ two ∷ two ∷ two ∷ one ∷ two ∷ one ∷ two ∷ two ∷ two ∷ []))
+flag-columns = (refl, each-choice (λ x y z. raisedBy (multiplyRow x y z) ≡ three) refl refl refl refl refl refl refl refl, refl)
 
 -- "li has no rs1, rs2 or rs3, so its flags are 000"
 pub li-raises-nothing : (w : ℕ) (x : Change) → isLi w ≡ true → flagsShown (In.Holds w) x ≡ record { rs1 = false; rs2 = false; rs3 = false }
@@ -155,48 +186,57 @@ nothing-raises-nothing (In.Holds w) = simp and-false
 -- ---- the call
 
 module _ (u : Unit) (start : ℕ) (buffer : List ℕ) where
+  -- "then a cycle tests 8, with a trace row 8 and 9": a drained unit is refused with 8, whether or not there is room, and 9 is for one that is not drained
+  pub drained-before-room : wellMadeOf u ≡ true → drainedOf u ≡ true → tracedOf u start buffer ≡ (record { refusal = DRAINED; unit = u }, buffer)
+  unfolding tracedOf
+  drained-before-room made drained = sym (passes _ _ _ (not-denied made) (stops _ _ drained))
+
+  pub room-behind-drained : wellMadeOf u ≡ true → drainedOf u ≡ false → length buffer < start + rowSize
+      → tracedOf u start buffer ≡ (record { refusal = ROOM; unit = u }, buffer)
+  unfolding tracedOf
+  room-behind-drained made more short = sym (passes _ _ _ (not-denied made) (passes _ _ _ more (stops _ _ (lt-ltb _ _ short))))
+
   -- "unit, register file and buffers stay unaltered"
   pub refused-unaltered : (tracedOf u start buffer .0 .refusal ≡ 0 → ⊥) → (tracedOf u start buffer .0 .unit ≡ u) × (tracedOf u start buffer .1 ≡ buffer)
   unfolding tracedOf
-  refused-unaltered h = go (wellMadeOf u) refl (drainedOf u) refl (ltb (length buffer) (start + rowSize)) refl
+  refused-unaltered = each Kept _ _ (λ h. (refl, refl), (λ h. (refl, refl), (λ h. (refl, refl), tt))) (λ h. absurd (h refl))
     where
-      go : (t : Bool) → wellMadeOf u ≡ t → (s : Bool) → drainedOf u ≡ s → (r : Bool) → ltb (length buffer) (start + rowSize) ≡ r
-          → (tracedOf u start buffer .0 .unit ≡ u) × (tracedOf u start buffer .1 ≡ buffer)
-      go false made s drained r short = rw made (refl, refl)
-      go true made true drained r short = rw (made, drained) (refl, refl)
-      go true made false drained true short = rw (made, drained, short) (refl, refl)
-      go true made false drained false short = absurd (h (rw (made, drained, short)))
+      Kept : Cycled × List ℕ → Type 0
+      Kept a = (a .0 .refusal ≡ 0 → ⊥) → (a .0 .unit ≡ u) × (a .1 ≡ buffer)
 
   -- a cycle with a row leaves the unit that a cycle leaves
   pub as-without-a-row : tracedOf u start buffer .0 .refusal ≡ 0 → tracedOf u start buffer .0 ≡ cycledOf u
   unfolding tracedOf cycledOf
-  as-without-a-row h = go (wellMadeOf u) refl (drainedOf u) refl (ltb (length buffer) (start + rowSize)) refl
+  as-without-a-row =
+      apart _ _ Same _ _ (λ made h. stops _ _ made) (λ made. apart _ _ Same _ _ (λ drained h. passes _ _ _ made (stops _ _ drained))
+      (λ more. apart _ _ Same _ _ (λ _ h. absurd (omega arith)) (λ _. subst Same ends (λ h. passes _ _ _ made (passes _ _ _ more ends)))))
     where
-      go : (t : Bool) → wellMadeOf u ≡ t → (s : Bool) → drainedOf u ≡ s → (r : Bool) → ltb (length buffer) (start + rowSize) ≡ r
-          → tracedOf u start buffer .0 ≡ cycledOf u
-      go false made s drained r short = rw made
-      go true made true drained r short = rw (made, drained)
-      go true made false drained true short = let no = rw (made, drained, short) at h in absurd (omega arith)
-      go true made false drained false short = rw (made, drained, short)
+      Same : Cycled × List ℕ → Type 0
+      Same a = a .0 .refusal ≡ 0 → a .0 ≡ cycledOf u
 
 -- ---- from a start
 
 module _ (file : List ℕ) (u : Unit) (whole : Whole (u .registers)) (accepts : startOf file u .refusal ≡ 0) (c : ℕ)
-    (early : c < lastOf (readOf instructionsAt file .job .n .0)) where
+    (early : c < lastOf (readOf instructionsAt file .job .program .n .0)) where
   abbrev before : Unit
   before = afterCalls c (startOf file u .unit)
 
-  abbrev program : List ℕ
-  program = programOf (readOf instructionsAt file .job)
+  abbrev lines : List ℕ
+  lines = linesOf (readOf instructionsAt file .job .program)
 
   abbrev set : List Register
   set = registersSet (readOf instructionsAt file .job .r) (readOf instructionsAt file .job .registers) (u .registers)
 
+  -- the row of the c-th cycle since a start, counted from 1, shows c
+  pub started-number : shownOf before .cycle ≡ suc c
+  unfolding shownBy
+  started-number = omega (arith, demand3-number file u whole accepts c (omega arith))
+
   -- the row of cycle c + 1 of a started job shows by what the plain machine's next word changes the registers
-  pub started-row : plain (take (suc c - 3) program) set ≡ changedBy (shownOf before .change) (plain (take (c - 3) program) set)
+  pub started-row : plain (take (suc c - 3) lines) set ≡ changedBy (shownOf before .change) (plain (take (c - 3) lines) set)
   started-row =
       let answers : cycledOf before .refusal ≡ 0
-      = rw (lt-leb (lastOf (readOf instructionsAt file .job .n .0)) c early) at (demand3-cycle-answers file u whole accepts c (omega arith)) in
+      = rw (lt-leb (lastOf (readOf instructionsAt file .job .program .n .0)) c early) at (demand3-cycle-answers file u whole accepts c (omega arith)) in
       let next : cycledOf before .unit ≡ cycleOf before = ap (λ (a : Cycled). a .unit) (goes before answers .gone) in
       sym (demand3-registers file u whole accepts (suc c) (omega arith))
       ∙ ap (λ (v : Unit). v .registers) next

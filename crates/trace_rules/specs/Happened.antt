@@ -18,12 +18,12 @@ use Rattle.trace_rules.specs.RowOfCycle.{readsRs1}
 -- the registers after the change that a row shows
 abbrev pub changedBy : Change → List Register → List Register
 changedBy Nothing f = f
-changedBy (To p v) f = set f (p .0) v
+changedBy (To p o) f = set f (p .0) (o .value)
 
 -- whether a row shows `--`
 abbrev pub isNothing : Change → Bool
 isNothing Nothing = true
-isNothing (To p v) = false
+isNothing (To p o) = false
 
 -- whether the word that a row shows in WB writes nothing: "it is empty or holds a NOP"
 abbrev pub writesNothing : Stage → Bool
@@ -33,7 +33,7 @@ writesNothing (In.Holds w) = isNop w
 -- whether a row shows that this register was written
 abbrev pub shows : Change → Pointer → Bool
 shows Nothing p = false
-shows (To q v) p = eqb (q .0) (p .0)
+shows (To q o) p = eqb (q .0) (p .0)
 
 -- the flags by what else a row shows: the word in EX, and the register written
 abbrev pub flagsShown : Stage → Change → Flags

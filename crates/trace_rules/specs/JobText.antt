@@ -6,6 +6,7 @@ use mathlib.Core.List.{List, [], _∷_, _++_}
 use lib.Dec.{eqb, ltb}
 use lib.ListN.{length, replicate}
 use Rattle.buffer.specs.Front.{atFront}
+use Rattle.table.specs.Decided.{decided}
 use Rattle.table.specs.Refusal.{ROOM}
 use Rattle.row_rules.specs.Text.{digit, twoDigits, behindSpace, newline, rowText}
 use Rattle.unit_rules.specs.declared.Unit.{Unit}
@@ -56,7 +57,8 @@ jobText file = textFor (startOf file freshOf)
 -- a text at the front of a lent buffer: 9 where it has too few bytes
 unfoldable pub putOf : List ℕ → List ℕ → TextAnswer × List ℕ
 putOf text buffer =
-    cond (ltb (length buffer) (length text)) (record { refusal = ROOM; size = 0 }, buffer)
+    decided
+    ((ltb (length buffer) (length text), (record { refusal = ROOM; size = 0 }, buffer)) ∷ [])
     (record { refusal = 0; size = length text }, atFront text buffer)
 
 -- the answer, and the buffer afterwards

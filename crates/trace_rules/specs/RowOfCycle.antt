@@ -2,7 +2,7 @@
 -- Assumes nothing.
 use Prim.Native.Nat.{ℕ, _+_}
 use mathlib.Core.Bool.{Bool, true, false, _&&_}
-use Rattle.register.specs.declared.Register.{Register}
+use Rattle.alu_rules.specs.declared.Outcome.{Outcome}
 use Rattle.table.specs.declared.Pointer.{Pointer}
 use Rattle.table.specs.declared.Reads.{Reads}
 use Rattle.table.specs.declared.Reads.the-variants.{Nothing as NoField, Rs1, Rs1Rs2, Rs1Rs2Rs3, Rd}
@@ -60,13 +60,13 @@ flagsOf wb ID/EX.Empty = record { rs1 = false; rs2 = false; rs3 = false }
 flagsOf wb (ID/EX.Holds i o) = flagsFor wb i
 
 -- "the register written", "its new value"
-abbrev pub changeTo : Target → Register → Change
-changeTo None v = Nothing
-changeTo (ToRegister p) v = To p v
+abbrev pub changeTo : Target → Outcome → Change
+changeTo None o = Nothing
+changeTo (ToRegister p) o = To p o
 
 abbrev pub changeOf : ExWb → Change
 changeOf EX/WB.Empty = Nothing
-changeOf (EX/WB.Holds i o) = changeTo (i .target) (o .value)
+changeOf (EX/WB.Holds i o) = changeTo (i .target) o
 
 -- a row, from the cycle's number, what IF delivers in it and what the latches hold at its start
 unfoldable pub shownBy : ℕ → IfId → IfId → IdEx → ExWb → Row
@@ -82,4 +82,4 @@ shownBy cycle delivered fetched decoded executed = record {
 
 -- the row of a unit's next cycle
 abbrev pub shownOf : Unit → Row
-shownOf u = shownBy (u .cycle + 1) (afterIF (u .program) (u .n .0) (u .count .0)) (u .fetched) (u .decoded) (u .executed)
+shownOf u = shownBy (u .cycle + 1) (afterIF (u .program) (u .count .0)) (u .fetched) (u .decoded) (u .executed)

@@ -9,13 +9,13 @@ use Rattle.unit_rules.specs.declared.InFlight.{InFlight}
 use Rattle.unit_rules.proofs.OneCycle.{deliver}
 use Rattle.trace_rules.proofs.TextLengths.{rows-long}
 
-module _ (i : ℕ) (u : Unit) {f : List Register} {l : InFlight} {delivered : IfId} {row : Row} (few : u .n .0 ≤ 64)
+module _ (i : ℕ) (u : Unit) {f : List Register} {l : InFlight} {delivered : IfId} {row : Row} (few : u .program .n .0 ≤ 64)
     (so-far : unitWith u i f l ≡ cyclesOf i u)
-    (fetched : delivered ≡ deliveredOf (u .n) (l .count) (getD (u .program) (l .count .0 % 64) 0))
+    (fetched : delivered ≡ deliveredOf (u .program .n) (l .count) (getD (u .program .words) (l .count .0 % 64) 0))
     (shown : row ≡ shownBy (u .cycle + (i + 1)) delivered (l .fetched) (l .decoded) (l .executed)) where
   its-row : row ≡ shownOf (cyclesOf i u)
   its-row =
-      shown ∙ rw (fetched, deliver (u .program) (u .n) (l .count) few, ← (add-assoc (u .cycle) i 1)) (ap shownOf so-far)
+      shown ∙ rw (fetched, deliver (u .program) (l .count) few, ← (add-assoc (u .cycle) i 1)) (ap shownOf so-far)
 
   pub row-more : (old out : List ℕ) {number : ℕ} {new : List ℕ} → rowSize * i + rowSize ≤ length out
       → out ≡ atFront (rowsOf i u) old → (number, new) ≡ rowAt row (rowSize * i) out → new ≡ atFront (rowsOf (i + 1) u) old

@@ -59,8 +59,7 @@ fn trace(out: &mut [u8], u: Unit) -> TextAnswer
     requires { ⌜ wellMadeOf u ≡ true ⌝ }
     ensures { λ r. ⌜ (r, now (out .exit)) ≡ putOf (traceText u) (now (out .entry)) ⌝ }
 {
-    let n = u.n;
-    let cycles = last(n) - u.cycle;
+    let cycles = last(u.program.n) - u.cycle;
     let end = ROW_SIZE * cycles as usize;
     if has_room(out.len(), end, END_SIZE) {
         put_rows(out, u, cycles);

@@ -19,11 +19,11 @@ use unit_stages::in_flight;
 use unit_stages::write_back::written;
 
 pub(crate) fn put_rows(out: &mut [u8], u: Unit, m: u32)
-    requires { ⌜ (wellMadeOf u ≡ true) × (u .cycle + m ≤ lastOf (u .n .0)) × (rowSize * m ≤ length (now out)) ⌝ }
+    requires { ⌜ (wellMadeOf u ≡ true) × (u .cycle + m ≤ lastOf (u .program .n .0)) × (rowSize * m ≤ length (now out)) ⌝ }
     ensures { λ _. ⌜ now (out .exit) ≡ atFront (rowsOf m u) (now (out .entry)) ⌝ }
 {
-    let program = u.program;
-    let n = u.n;
+    let words = u.program.words;
+    let n = u.program.n;
     let mut registers = u.registers;
     let mut flight = in_flight(u);
     let mut made: u32 = 0;
@@ -48,7 +48,7 @@ pub(crate) fn put_rows(out: &mut [u8], u: Unit, m: u32)
             third: registers[third],
         };
         let here = (flight.count.0 % 64) as usize;
-        let next = advanced(n, flight, write, read, program[here]);
+        let next = advanced(n, flight, write, read, words[here]);
         let delivered = next.fetched;
         let row = row_of_cycle(u.cycle + made, flight, delivered);
         write_row(out, start, row);

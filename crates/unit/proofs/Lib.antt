@@ -1,4 +1,3 @@
-pub mod Questions
 pub mod Starting
 pub mod Loop
 pub mod CyclesAndRuns

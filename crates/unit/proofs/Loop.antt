@@ -1,10 +1,11 @@
 -- The loop over cycles: its locals, put together, are the unit after so many cycles. Carried by the laws of the stages, a turn at a time; the indices are in range
 -- because a well-made unit's latches hold instructions of its program.
 -- Assumes nothing.
-use Rattle.unit_rules.proofs.Shared.{ℕ, _+_, _-_, _%_, _≤_, _<_, _≡_, refl, sym, ap, subst, _∙_, Bool, true, false, cond, List, add-assoc, add-zero}
-use Rattle.unit_rules.proofs.Shared.{add-one, arith, ltb, leb, getD, set, Register, zeroRegister, Target, None, To, isLi, rdOf, rs1Of, firstOf, isNop}
-use Rattle.unit_rules.proofs.Shared.{targetOf, instructionOf, afterWB, afterID, afterIF, cycleOf, cyclesOf, inExecuted, heldOf, wellMadeOf, writeTo}
+use Rattle.unit_rules.proofs.Shared.{ℕ, zero, suc, _+_, _-_, _%_, _≤_, _<_, _≡_, refl, sym, ap, subst, _∙_, Bool, true, false, cond, List, add-assoc, add-zero}
+use Rattle.unit_rules.proofs.Shared.{add-one, arith, ltb, getD, set, Register, zeroRegister, Target, None, To, isLi, rdOf, rs1Of, firstOf, isNop}
+use Rattle.unit_rules.proofs.Shared.{targetOf, instructionOf, instructionAt, fetchedIn, afterWB, afterID, cycleOf, cyclesOf, inExecuted, wellMadeOf, writeTo}
 use Rattle.unit_rules.proofs.Shared.{writeOf, sourcesOf, readAt, decodedWith, inFlightOf, unitWith, advancedOf}
+use Rattle.job_rules.specs.declared.Program.{Program}
 use Rattle.unit_rules.specs.declared.IfId.{IfId}
 use Rattle.unit_rules.specs.declared.IfId.the-variants as IF/ID
 use Rattle.unit_rules.specs.declared.ExWb.{ExWb}
@@ -19,17 +20,17 @@ use Rattle.unit_rules.proofs.OneCycle.{write-back, deliver, execute, decode}
 
 -- a turn: what the stages are called for, one after another
 pub turn : (u : Unit) {g : List Register} {l : InFlight} {w : Write} {v : Sources}
-    → u .n .0 ≤ 64
+    → u .program .n .0 ≤ 64
     → w ≡ writeOf (u .executed) → g ≡ cond (w .writes) (set (u .registers) (w .at .0) (w .value)) (u .registers)
     → v ≡ sourcesOf (u .fetched)
-    → l ≡ advancedOf (u .n) (inFlightOf u) w (readAt v g) (getD (u .program) (u .count .0 % 64) 0)
+    → l ≡ advancedOf (u .program .n) (inFlightOf u) w (readAt v g) (getD (u .program .words) (u .count .0 % 64) 0)
     → unitWith u 1 g l ≡ cycleOf u
 unfolding cycleOf
 turn u {g = g} few ew eg ev el =
     let stored : g ≡ afterWB (u .executed) (u .registers) = eg ∙ rw ew (write-back (u .executed) (u .registers)) in
     let read : decodedWith (u .fetched) (readAt (sourcesOf (u .fetched)) g) ≡ afterID (u .fetched) g = decode (u .fetched) g in
     let worked = execute (u .executed) (u .decoded) in
-    let fetched = deliver (u .program) (u .n) (u .count) few in
+    let fetched = deliver (u .program) (u .count) few in
     rw (el, ev, ew, read, stored, worked, fetched)
 
 -- before the first turn
@@ -76,16 +77,13 @@ small-word w = record { first = first (isLi w); second = omega arith; third = om
 small-none : Small IF/ID.Empty
 small-none = record { first = omega arith; second = omega arith; third = omega arith; target = omega arith }
 
-small-held : (p : List ℕ) (n k c : ℕ) → Small (heldOf p n k c)
-small-held p n k c = held (leb k c)
+small-fetched : (p : Program) (c : ℕ) → Small (fetchedIn p c)
+small-fetched p zero = small-none
+small-fetched p (suc k) = go (ltb k (p .n .0))
   where
-    fetched : (t : Bool) → Small (cond t (IF/ID.Holds (instructionOf (getD p (c - k) 0))) IF/ID.Empty)
-    fetched true = small-word (getD p (c - k) 0)
-    fetched false = small-none
-
-    held : (t : Bool) → Small (cond t (afterIF p n (c - k)) IF/ID.Empty)
-    held true = fetched (ltb (c - k) n)
-    held false = small-none
+    go : (t : Bool) → Small (cond t (IF/ID.Holds (instructionAt p k)) IF/ID.Empty)
+    go true = small-word (getD (p .words) k 0)
+    go false = small-none
 
 -- where WB writes, by the instruction that it holds
 at-is : (z : ExWb) → writeOf z .at .0 ≡ targetIn (inExecuted z)
@@ -102,7 +100,7 @@ module _ (u : Unit) (made : wellMadeOf u ≡ true) (c : ℕ) {f : List Register}
   placed = subst Placed (sym e) (placed-cycles c u (well-made-says u made .placed))
 
   read : Small (l .fetched)
-  read = subst Small (sym (placed .in-IF/ID)) (small-held (u .program) (u .n .0) 1 (u .cycle + c))
+  read = subst Small (sym (placed .in-IF/ID)) (small-fetched (u .program) (u .cycle + c))
 
   module _ {v : Sources} (from : v ≡ sourcesOf (l .fetched)) where
     pub first-in-range : v .first .0 < 32
@@ -116,5 +114,5 @@ module _ (u : Unit) (made : wellMadeOf u ≡ true) (c : ℕ) {f : List Register}
 
   pub write-in-range : {w : Write} → w ≡ writeOf (l .executed) → w .at .0 < 32
   write-in-range h =
-      let s = subst Small (sym (placed .in-EX/WB)) (small-held (u .program) (u .n .0) 3 (u .cycle + c)) in
+      let s = subst Small (sym (placed .in-EX/WB)) (small-fetched (u .program) (u .cycle + c - 2)) in
       rw (h, at-is (l .executed)) (s .target)

@@ -16,7 +16,7 @@ module _ (file : List ℕ) (u : Unit) {read : ReadJob} (reads : read ≡ readOf 
   few-registers e = rw reads (sound-read file (sym (ap (λ (r : ReadJob). r .refusal) reads) ∙ e) .fewer)
 
   pub accepted : {f : List Register} {v : Unit} → read .refusal ≡ 0
-      → f ≡ registersSet (read .job .r) (read .job .registers) (u .registers) → v ≡ begunOf (read .job .words) (read .job .n) f
+      → f ≡ registersSet (read .job .r) (read .job .registers) (u .registers) → v ≡ begunOf (read .job .program) f
       → _≡_ {A = Started} (record { refusal = read .refusal; place = read .place; unit = v }) (startOf file u)
   unfolding startOf
   accepted e g h = rw (h, ← reads, eq-eqb _ _ e, g)

@@ -1,7 +1,8 @@
--- For every public function: no second answer fits its contract, since the contract is one equation.
+-- For every public function: it asks nothing and no second answer fits, since its contract is one equation and has no `requires`.
 -- Assumes nothing.
-use mathlib.Core.Path.{refl, sym, _∙_}
+use mathlib.Core.Path.{refl}
 use Rattle.determined.specs.Determined.{Determined}
+use Rattle.determined.proofs.OneEquation.{by-value, no-requires}
 use Rattle.unit.proofs.ask.register_of.Kinds as register-of-kinds
 use Rattle.unit.proofs.ask.register_of.Reads as register-of-reads
 use Rattle.unit.proofs.ask.drained.Kinds as drained-kinds
@@ -15,20 +16,20 @@ use Rattle.unit.proofs.cycle.Reads as cycle-reads
 use Rattle.unit.proofs.run.Kinds as run-kinds
 use Rattle.unit.proofs.run.Reads as run-reads
 
-pub register-of-unique : Determined 0 register-of-kinds.ps register-of-kinds.r register-of-reads.Post
-register-of-unique κs a x y v w p q = (p ∙ sym q, refl)
+pub register-of-unique : Determined 0 register-of-kinds.ps register-of-kinds.r register-of-reads.requires register-of-reads.Post
+register-of-unique = by-value (λ κs a. no-requires) (λ κs a v w. refl)
 
-pub drained-unique : Determined 0 drained-kinds.ps drained-kinds.r drained-reads.Post
-drained-unique κs a x y v w p q = (p ∙ sym q, refl)
+pub drained-unique : Determined 0 drained-kinds.ps drained-kinds.r drained-reads.requires drained-reads.Post
+drained-unique = by-value (λ κs a. no-requires) (λ κs a v w. refl)
 
-pub fresh-unique : Determined 0 fresh-kinds.ps fresh-kinds.r fresh-reads.Post
-fresh-unique κs a x y v w p q = (p ∙ sym q, refl)
+pub fresh-unique : Determined 0 fresh-kinds.ps fresh-kinds.r fresh-reads.requires fresh-reads.Post
+fresh-unique = by-value (λ κs a. no-requires) (λ κs a v w. refl)
 
-pub start-unique : Determined 1 start-kinds.ps start-kinds.r start-reads.Post
-start-unique κs a x y v w p q = (p ∙ sym q, refl)
+pub start-unique : Determined 1 start-kinds.ps start-kinds.r start-reads.requires start-reads.Post
+start-unique = by-value (λ κs a. no-requires) (λ κs a v w. refl)
 
-pub cycle-unique : Determined 0 cycle-kinds.ps cycle-kinds.r cycle-reads.Post
-cycle-unique κs a x y v w p q = (p ∙ sym q, refl)
+pub cycle-unique : Determined 0 cycle-kinds.ps cycle-kinds.r cycle-reads.requires cycle-reads.Post
+cycle-unique = by-value (λ κs a. no-requires) (λ κs a v w. refl)
 
-pub run-unique : Determined 0 run-kinds.ps run-kinds.r run-reads.Post
-run-unique κs a x y v w p q = (p ∙ sym q, refl)
+pub run-unique : Determined 0 run-kinds.ps run-kinds.r run-reads.requires run-reads.Post
+run-unique = by-value (λ κs a. no-requires) (λ κs a v w. refl)

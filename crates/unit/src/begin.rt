@@ -3,6 +3,7 @@
 ghost use Prim.Native.Nat.{_≤_};
 ghost use mathlib.Core.Path.{_≡_};
 ghost use Rattle.unit_rules.specs.Calls.{begunOf, registersSet, freshOf, startOf};
+use job_rules::Program;
 use register::Register;
 use table::Count;
 use unit_rules::ExWb;
@@ -12,12 +13,11 @@ use unit_rules::Started;
 use unit_rules::Unit;
 
 // A unit before its first cycle: the latches empty, count and cycle number zero.
-fn begun(program: [u32; 64], n: Count, registers: [Register; 32]) -> Unit
-    ensures { λ r. ⌜ r ≡ begunOf program n registers ⌝ }
+fn begun(program: Program, registers: [Register; 32]) -> Unit
+    ensures { λ r. ⌜ r ≡ begunOf program registers ⌝ }
 {
     Unit {
         program: program,
-        n: n,
         count: Count(0),
         cycle: 0,
         registers: registers,
@@ -32,9 +32,10 @@ pub fn fresh() -> Unit
     ensures { λ r. ⌜ r ≡ freshOf ⌝ }
 {
     let zero = Register::ZERO;
-    let program = [0u32; 64];
+    let words = [0u32; 64];
+    let program = Program { words, n: Count(0) };
     let registers = [zero; 32];
-    begun(program, Count(0), registers)
+    begun(program, registers)
 }
 
 // Registers 0 to r - 1 from the file; the others stay.
@@ -70,10 +71,9 @@ pub fn start(u: Unit, file: &[u8]) -> Started
     let job = read.job;
     let old = u.registers;
     let from = job.registers;
-    let program = job.words;
-    let n = job.n;
+    let program = job.program;
     let registers = set_registers(from, job.r, old);
-    let unit = begun(program, n, registers);
+    let unit = begun(program, registers);
     Started {
         refusal: number,
         place: place,

@@ -32,10 +32,8 @@ fn reassembled(
     ensures { λ r. ⌜ r ≡ unitWith u m registers (record { count = count; fetched = fetched; decoded = decoded; executed = executed }) ⌝ }
 {
     let program = u.program;
-    let n = u.n;
     Unit {
         program,
-        n,
         count,
         cycle: u.cycle + m,
         registers,
@@ -46,11 +44,11 @@ fn reassembled(
 }
 
 pub(crate) fn cycles(u: Unit, m: u32) -> Unit
-    requires { ⌜ (wellMadeOf u ≡ true) × (u .cycle + m ≤ lastOf (u .n .0)) ⌝ }
+    requires { ⌜ (wellMadeOf u ≡ true) × (u .cycle + m ≤ lastOf (u .program .n .0)) ⌝ }
     ensures { λ r. ⌜ r ≡ cyclesOf m u ⌝ }
 {
-    let program = u.program;
-    let n = u.n;
+    let words = u.program.words;
+    let n = u.program.n;
     let mut registers = u.registers;
     let mut count = u.count;
     let mut fetched = u.fetched;
@@ -77,7 +75,7 @@ pub(crate) fn cycles(u: Unit, m: u32) -> Unit
         };
         let here = (count.0 % 64) as usize;
         decoded = decode::decoded(fetched, read);
-        fetched = fetch::delivered(n, count, program[here]);
+        fetched = fetch::delivered(n, count, words[here]);
         count = fetch::next_count(n, count);
     }
     reassembled(u, m, registers, count, fetched, decoded, executed)

@@ -49,8 +49,7 @@ pub fn run(u: Unit, budget: u32) -> Ran
     ensures { λ r. ⌜ r ≡ ranOf u budget ⌝ }
 {
     if well_made(u) {
-        let n = u.n;
-        let end = last(n);
+        let end = last(u.program.n);
         let made = lesser(budget, end - u.cycle);
         let after = cycles(u, made);
         return Ran {

@@ -1,6 +1,7 @@
 -- Carried by a walk of `fn(u: &mut Unit, buffer: &mut [u8], start: usize) -> A { let s = core(*u, buffer, start); *u = s.unit; what else is in s }`,
 -- whatever the core hands back. The buffer is given up to the core, at its own lifetime.
 -- Assumes nothing.
+use Rattle.determined.specs.Determined.{Reading}
 use Rattle.unit_lent.proofs.Walking.{ !, Args, Ended, GName, Is, Lft, Lfts, List, MutRef, MutSlice, Record, RefT, Share, Val, ℕ, []}
 use Rattle.unit_lent.proofs.Walking.{_$_, _∵_, _∷_, _≡_, _⊛_, addr, addrOf, agg, aggregate, alloc0, alloc1, and-then, assign, assigns}
 use Rattle.unit_lent.proofs.Walking.{atExit, by, call, copy, deref, drop, enter, erased, feqL, field, fjoin, fld, flft, free0, from}
@@ -12,13 +13,13 @@ use Rattle.unit_lent.proofs.Walking.{sliceTy, sliceVal, split, stay-non
 use Rattle.unit_lent.proofs.Walking.{uint-makes, uint-tells, uint-vals, unit-mir, unit-row, usize, vint, vptr, w64, w8, whole, yes, ‵}
 use Rattle.unit_lent.proofs.Handed.{Handed, handed-back, lent-type, put-back}
 use Rattle.unit_lent.proofs.Steps.{by-value, calls-core, copying, freed, machine, mutably, opened, ref, typed, value, whole-again}
-use Rattle.unit_lent.proofs.Thin.{Met, Promise, Thin, WalkAt, carried, code-of, ended, ends}
+use Rattle.unit_lent.proofs.Thin.{Met, Thin, WalkAt, carried, code-of, ended, ends}
 
 abbrev own : Handed → Ended
 own X = ended 2 (mutably ∷ mutSliceOf (1 ∷ []) tt (plain (λ _. u8)) ∷ plain (λ _. usize) ∷ []) (X .answer-type)
 
 -- what the core gives, what the function promises, and that the promise is kept by what is given
-module _ (X : Handed) (gives : Record → ℕ → List ℕ → X .whole-type .D × List ℕ) (Says : Promise (own X))
+module _ (X : Handed) (gives : Record → ℕ → List ℕ → X .whole-type .D × List ℕ) (Says : Reading (own X))
     (so : (κs : Lfts 2) (a : Args (own X .signature) κs) (r : X .whole-type .D) (after : List ℕ)
     → (r, after) ≡ gives (now (a .0)) (a .1 .1 .0) (now (a .1 .0))
     → Says κs a (X .answer r) (atExit (own X) κs a (X .unit r, (after, (tt, tt))))) where

@@ -1,5 +1,6 @@
 -- Carried by the kit's calculus of walks: the steps that walks over a lent unit share. No field of the unit is named.
 -- Assumes nothing.
+use Rattle.determined.specs.Determined.{Reading}
 use Rattle.unit_lent.proofs.Walking.{Atoms, Body, Bound, Calls, Code, Ended, Env, FmC, Fml, GName, Given, Goal, Gv, Heap, Holds, Is}
 use Rattle.unit_lent.proofs.Walking.{Item, Lasts, Lft, List, Loops, Name, Opd, Opds, Operand, Place, Post, Record, RefT, Res, Seq}
 use Rattle.unit_lent.proofs.Walking.{Share, Slot, Soaks, Step, Triple, Ty, URA, Val, WT, ℕ, [], _$_, _++_, _∷_, _≡_, _⊛_, alive}
@@ -11,7 +12,7 @@ use Rattle.unit_lent.proofs.Walking.{runs, rvOpd, sep, seq, shows, shrR
 use Rattle.unit_lent.proofs.Walking.{unit-laws, unit-mir, unit-plain, unit-row, unit-type, use1, use2, via, vptr, ‵}
 use denote.Struct.Laws as LL
 use denote.Struct.Steps.{spelt}
-use Rattle.unit_lent.proofs.Thin.{Promise, promised}
+use Rattle.unit_lent.proofs.Thin.{promised}
 
 -- the unit as it lies in memory
 abbrev pub machine : Record → Val
@@ -93,7 +94,7 @@ module _ {M : Type 1} {𝓤 : URA M} {H : Heap 𝓤} {A : Atoms 𝓤} {K : Type 
 
   -- the core is called, on its tokens and what its parameters own. It returns v: what the answer owns, the tokens, the last values, and the promise
   pub calls-core : K → {C : Calls 𝓤 H} {Λ : Loops 𝓤 H} {p : Post 𝓤 H} → FmC 𝓤 H (W .laws) C → {f : Name} {xs : List Operand} {d : Place} {rest : Code}
-      (T : Ended) (P : Promise T) → Triple 𝓤 (C f) (promised 𝓤 H A T P) → (x : Bound 𝓤 H A (T .signature)) {i j : Item 𝓤}
+      (T : Ended) (P : Reading T) → Triple 𝓤 (C f) (promised 𝓤 H A T P) → (x : Bound 𝓤 H A (T .signature)) {i j : Item 𝓤}
       → ent 𝓤 (sep 𝓤 (mean 𝓤 H A i) (mean 𝓤 H A j)) (onEntry 𝓤 H A (T .signature) (x .0) (x .1) (x .3) (x .4))
       → Opds K W (raw (promised 𝓤 H A T P .pre (x, tt)) ∷ Γ) E xs (passed 𝓤 H A (T .signature) x)
       → ((v : Val) (r : Res (T .signature) (x .0)) (ws : Lasts T (x .0) (x .3)) → P (x .0) (x .3) r (atExit T (x .0) (x .3) ws)

@@ -1,11 +1,12 @@
 -- Carried by the kit's way from a walk to a theorem: what a thin function is, and that it keeps its promise where the core keeps its own.
 -- Assumes nothing.
-use Rattle.unit_lent.proofs.Walking.{ !, AllGo, AllOutlive, Are, Args, AtExit, Atoms, Calls, Clauses, Closed, Code, Contract, Ended, Fit, FmC}
+use Rattle.unit_lent.proofs.Walking.{ !, AllGo, AllOutlive, Are, Args, Atoms, Calls, Clauses, Closed, Code, Contract, Ended, Fit, FmC}
 use Rattle.unit_lent.proofs.Walking.{Fn, Given, Heap, Ises, Lasts, Lfts, List, Local, Loops, Name, RattleType, Res, SProp, Shares, Slot}
 use Rattle.unit_lent.proofs.Walking.{Spells, Stays, Tables, Tellss, Triple, Ty, URA, Val, Values, WpFn, WpFn-mono, ℕ, [], _$_, _∵_, _∷_, _≡_}
 use Rattle.unit_lent.proofs.Walking.{all, atExit, closing, done, emp, ends-at, ent, fact, flat, fmOf, fst∗, local, onEntry, onExit, plain}
 use Rattle.unit_lent.proofs.Walking.{qed, raw, says, suffices, tripleOf, typesAt, valss, valueLocal, via, walk-meets, walkOf, walked, yes}
 use prog.Model.{Model}
+use Rattle.determined.specs.Determined.{Reading}
 use prog.Routine.{Env as Routines, Routine}
 use contract.Running.{GhostRules, Running, givenOf, tables, tablesOf}
 use denote.Triple.Table.{cited, entered}
@@ -22,14 +23,11 @@ locals (τ ∷ τs) = local τ valueLocal ∷ locals τs
 abbrev pub code-of : (lifetimes params : ℕ) → List Ty → Code → Fn
 code-of lifetimes params τs body = record { lifetimes = lifetimes; outlives = []; params = params; locals = locals τs; body = body }
 
--- a fact of the arguments, the answer and what was lent, at exit; and the contract that promises it and asks nothing
-abbrev pub Promise : Ended → Type 1
-Promise T = (κs : Lfts (T .signature .lifetimes)) → Args (T .signature) κs → Res (T .signature) κs → AtExit T κs → Type 0
-
-abbrev pub promising : {M : Type 1} (𝓤 : URA M) (T : Ended) → Promise T → Clauses 𝓤 T
+-- the contract that promises a fact of the arguments, the answer and what was lent, at exit, and asks nothing
+abbrev pub promising : {M : Type 1} (𝓤 : URA M) (T : Ended) → Reading T → Clauses 𝓤 T
 promising 𝓤 T P κs a = record { ghost = Unit {0}; requires = λ g. emp 𝓤; ensures = λ g r s. fact 𝓤 (P κs a r s) }
 
-abbrev pub promised : {M : Type 1} (𝓤 : URA M) (H : Heap 𝓤) (A : Atoms 𝓤) (T : Ended) → Promise T → Contract 𝓤
+abbrev pub promised : {M : Type 1} (𝓤 : URA M) (H : Heap 𝓤) (A : Atoms 𝓤) (T : Ended) → Reading T → Contract 𝓤
 promised 𝓤 H A T P = tripleOf 𝓤 H A (T .signature) (closing 𝓤 H A T (promising 𝓤 T P))
 
 -- a function over a lent unit and the core that it calls: the signature and the promise of each, and the function's code over the core's name; and
@@ -37,8 +35,8 @@ promised 𝓤 H A T P = tripleOf 𝓤 H A (T .signature) (closing 𝓤 H A T (pr
 pub record Thin : Type 2 where
   pub own : Ended
   pub core : Ended
-  pub says : Promise own
-  pub said : Promise core
+  pub says : Reading own
+  pub said : Reading core
   pub code : Name → Fn
   pub stayed : Stays (own .signature .params) (own .kept)
   pub goes : {M : Type 1} (𝓤 : URA M) (H : Heap 𝓤) (A : Atoms 𝓤) (W : Given 𝓤 H A)

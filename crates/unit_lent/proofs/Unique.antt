@@ -1,11 +1,13 @@
--- For every public function: no second answer, and no second unit or buffer afterwards, fits its contract, since the contract is one equation. A function
--- that is walked has no generated reading of its contract: each is written out here, and `reads` ties it to the contract.
+-- For every public function: it asks nothing, and no second answer and no second unit or buffer afterwards fits, since its contract is one equation
+-- and has no `requires`. A function that is walked has no generated reading of its contract: each is written out here, and `reads` ties it to the
+-- contract.
 -- Assumes nothing.
 use mathlib.Core.Path.{_∙_, _≡_, refl, sym}
+use base.Logic.{emp, id⊢}
 use denote.Ref.{now}
 use Rattle.unit_rules.specs.Calls.{askedDrained, cycledOf, ranOf, registerOf, startOf}
 use Rattle.trace_rules.specs.Call.{tracedOf}
-use Rattle.determined.specs.Determined.{Unique}
+use Rattle.determined.specs.Determined.{Unique, Reading}
 use Rattle.unit_lent.specs.Lent.{cycledWith, ranWith, startedWith}
 use Rattle.unit_lent.proofs.start as start
 use Rattle.unit_lent.proofs.cycle as cycle
@@ -13,31 +15,31 @@ use Rattle.unit_lent.proofs.cycle_with_row as cycle-with-row
 use Rattle.unit_lent.proofs.run as run
 use Rattle.unit_lent.proofs.register_of as register-of
 use Rattle.unit_lent.proofs.drained as drained
-use Rattle.unit_lent.proofs.Thin.{Promise}
 
-abbrev pub start-promise : Promise start.ended
+abbrev pub start-promise : Reading start.ended
 start-promise κs a r s = startedWith r (now (s .0)) ≡ startOf (now (a .1 .0)) (now (a .0))
 
-abbrev pub cycle-promise : Promise cycle.ended
+abbrev pub cycle-promise : Reading cycle.ended
 cycle-promise κs a r s = cycledWith r (now (s .0)) ≡ cycledOf (now (a .0))
 
-abbrev pub cycle-with-row-promise : Promise cycle-with-row.ended
+abbrev pub cycle-with-row-promise : Reading cycle-with-row.ended
 cycle-with-row-promise κs a r s = (cycledWith r (now (s .0)), now (s .1 .0)) ≡ tracedOf (now (a .0)) (a .1 .1 .0) (now (a .1 .0))
 
-abbrev pub run-promise : Promise run.ended
+abbrev pub run-promise : Reading run.ended
 run-promise κs a r s = ranWith r (now (s .0)) ≡ ranOf (now (a .0)) (a .1 .0)
 
-abbrev pub register-of-promise : Promise register-of.ended
+abbrev pub register-of-promise : Reading register-of.ended
 register-of-promise κs a r s = r ≡ registerOf (now (a .0)) (a .1 .0)
 
-abbrev pub drained-promise : Promise drained.ended
+abbrev pub drained-promise : Reading drained.ended
 drained-promise κs a r s = r ≡ askedDrained (now (a .0))
 
 pub start-unique : Unique start.ended (λ M 𝓤 H. start.clauses 𝓤 H)
 start-unique = record {
   Post = start-promise;
   reads = λ 𝓤 H A mem run κs a g r s. refl;
-  one = λ κs a x y v w p q.
+  asks-nothing = λ 𝓤 H A mem run κs a. (tt, id⊢ 𝓤 (emp 𝓤));
+  one-answer = λ κs a x y v w p q.
       let same = p ∙ sym q in ((λ i. record { refusal = same i .refusal; place = same i .place }), λ i. (same i .unit, v .1));
 }
 
@@ -45,33 +47,39 @@ pub cycle-unique : Unique cycle.ended (λ M 𝓤 H. cycle.clauses 𝓤 H)
 cycle-unique = record {
   Post = cycle-promise;
   reads = λ 𝓤 H A mem run κs a g r s. refl;
-  one = λ κs a x y v w p q. let same = p ∙ sym q in ((λ i. same i .refusal), λ i. (same i .unit, v .1));
+  asks-nothing = λ 𝓤 H A mem run κs a. (tt, id⊢ 𝓤 (emp 𝓤));
+  one-answer = λ κs a x y v w p q. let same = p ∙ sym q in ((λ i. same i .refusal), λ i. (same i .unit, v .1));
 }
 
 pub cycle-with-row-unique : Unique cycle-with-row.ended (λ M 𝓤 H. cycle-with-row.clauses 𝓤 H)
 cycle-with-row-unique = record {
   Post = cycle-with-row-promise;
   reads = λ 𝓤 H A mem run κs a g r s. refl;
-  one = λ κs a x y v w p q. let same = p ∙ sym q in ((λ i. same i .0 .refusal), λ i. (same i .0 .unit, (same i .1, v .1 .1)));
+  asks-nothing = λ 𝓤 H A mem run κs a. (tt, id⊢ 𝓤 (emp 𝓤));
+  one-answer = λ κs a x y v w p q. let same = p ∙ sym q in ((λ i. same i .0 .refusal), λ i. (same i .0 .unit, (same i .1, v .1 .1)));
 }
 
 pub run-unique : Unique run.ended (λ M 𝓤 H. run.clauses 𝓤 H)
 run-unique = record {
   Post = run-promise;
   reads = λ 𝓤 H A mem run κs a g r s. refl;
-  one = λ κs a x y v w p q. let same = p ∙ sym q in ((λ i. record { refusal = same i .refusal; made = same i .made }), λ i. (same i .unit, v .1));
+  asks-nothing = λ 𝓤 H A mem run κs a. (tt, id⊢ 𝓤 (emp 𝓤));
+  one-answer = λ κs a x y v w p q.
+      let same = p ∙ sym q in ((λ i. record { refusal = same i .refusal; made = same i .made }), λ i. (same i .unit, v .1));
 }
 
 pub register-of-unique : Unique register-of.ended (λ M 𝓤 H. register-of.clauses 𝓤 H)
 register-of-unique = record {
   Post = register-of-promise;
   reads = λ 𝓤 H A mem run κs a g r s. refl;
-  one = λ κs a x y v w p q. (p ∙ sym q, refl);
+  asks-nothing = λ 𝓤 H A mem run κs a. (tt, id⊢ 𝓤 (emp 𝓤));
+  one-answer = λ κs a x y v w p q. (p ∙ sym q, refl);
 }
 
 pub drained-unique : Unique drained.ended (λ M 𝓤 H. drained.clauses 𝓤 H)
 drained-unique = record {
   Post = drained-promise;
   reads = λ 𝓤 H A mem run κs a g r s. refl;
-  one = λ κs a x y v w p q. (p ∙ sym q, refl);
+  asks-nothing = λ 𝓤 H A mem run κs a. (tt, id⊢ 𝓤 (emp 𝓤));
+  one-answer = λ κs a x y v w p q. (p ∙ sym q, refl);
 }

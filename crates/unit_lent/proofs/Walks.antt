@@ -1,6 +1,7 @@
 -- Carried by four walks, whatever the core hands back and whatever is handed on beside the unit: of a function that changes the unit, which is
 -- `{ let s = core(*u); *u = s.unit; what else is in s }`, and of one that asks it, which is `core(*u)`; and of both with one parameter more.
 -- Assumes nothing.
+use Rattle.determined.specs.Determined.{Reading}
 use Rattle.unit_lent.proofs.Walking.{ !, Args, Declared, Ended, GName, Is, Lft, Lfts, MutRef, Record, Share, Shares, ShrRef, ℕ, []}
 use Rattle.unit_lent.proofs.Walking.{_$_, _∵_, _∷_, _≡_, _⊛_, alloc0, alloc1, and-then, assigns, atExit, by, call, copy, drop, enter}
 use Rattle.unit_lent.proofs.Walking.{fjoin, flft, free0, from, fsplit, fsplit3, ftrue, goes-none, goes-none-ref, goes-ref, hop, id⊢}
@@ -13,7 +14,7 @@ use Rattle.unit_lent.proofs.Beside.{Beside}
 use Rattle.unit_lent.proofs.Handed.{Handed, handed-back, lent-type, put-back}
 use Rattle.unit_lent.proofs.Steps.{by-value, calls-core, copying, freed, looked, machine}
 use Rattle.unit_lent.proofs.Steps.{mutably, opened, ref, shared, typed, value, whole-again}
-use Rattle.unit_lent.proofs.Thin.{Met, Promise, Thin, WalkAt, carried, code-of, ended, ends}
+use Rattle.unit_lent.proofs.Thin.{Met, Thin, WalkAt, carried, code-of, ended, ends}
 
 -- ---- fn(u: &mut Unit) -> A
 
@@ -21,7 +22,7 @@ abbrev own : Handed → Ended
 own X = ended 1 (mutably ∷ []) (X .answer-type)
 
 -- what the core gives, what the function promises, and that the promise is kept by what is given
-module _ (X : Handed) (gives : Record → X .whole-type .D) (Says : Promise (own X))
+module _ (X : Handed) (gives : Record → X .whole-type .D) (Says : Reading (own X))
     (so : (κs : Lfts 1) (a : Args (own X .signature) κs) (r : X .whole-type .D) → r ≡ gives (now (a .0))
     → Says κs a (X .answer r) (atExit (own X) κs a (X .unit r, tt))) where
   abbrev thin : Thin
@@ -66,7 +67,7 @@ module _ (X : Handed) (gives : Record → X .whole-type .D) (Says : Promise (own
 abbrev asked-own : Declared → Ended
 asked-own R = ended 1 (shared ∷ []) (row R)
 
-module _ (R : Declared) (L : LL.Laws R) (gives : Record → R .D) (Says : Promise (asked-own R))
+module _ (R : Declared) (L : LL.Laws R) (gives : Record → R .D) (Says : Reading (asked-own R))
     (so : (κs : Lfts 1) (a : Args (asked-own R .signature) κs) (r : R .D) → r ≡ gives (now (a .0))
     → Says κs a r (atExit (asked-own R) κs a (tt, tt))) where
   abbrev asked : Thin
@@ -110,7 +111,7 @@ module _ (R : Declared) (L : LL.Laws R) (gives : Record → R .D) (Says : Promis
 abbrev more-own : Handed → {n : ℕ} → Beside n → Ended
 more-own X {n} B = ended (suc n) (mutably ∷ plain (λ κs. B .ours (κs .1)) ∷ []) (X .answer-type)
 
-module _ (X : Handed) {n : ℕ} (B : Beside n) (gives : (κs : Lfts n) → Record → B .theirs κs .Denot → X .whole-type .D) (Says : Promise (more-own X B))
+module _ (X : Handed) {n : ℕ} (B : Beside n) (gives : (κs : Lfts n) → Record → B .theirs κs .Denot → X .whole-type .D) (Says : Reading (more-own X B))
     (so : (κs : Lfts (suc n)) (a : Args (more-own X B .signature) κs) (r : X .whole-type .D)
     → r ≡ gives (κs .1) (now (a .0)) (B .same (κs .1) (a .1 .0))
     → Says κs a (X .answer r) (atExit (more-own X B) κs a (X .unit r, (B .last (κs .1) (a .1 .0), tt)))) where
@@ -169,7 +170,7 @@ abbrev more-asked-own : Declared → {n : ℕ} → Beside n → Ended
 more-asked-own R {n} B = ended (suc n) (shared ∷ plain (λ κs. B .ours (κs .1)) ∷ []) (row R)
 
 module _ (R : Declared) (L : LL.Laws R) {n : ℕ} (B : Beside n)
-    (gives : (κs : Lfts n) → Record → B .theirs κs .Denot → R .D) (Says : Promise (more-asked-own R B))
+    (gives : (κs : Lfts n) → Record → B .theirs κs .Denot → R .D) (Says : Reading (more-asked-own R B))
     (so : (κs : Lfts (suc n)) (a : Args (more-asked-own R B .signature) κs) (r : R .D) → r ≡ gives (κs .1) (now (a .0)) (B .same (κs .1) (a .1 .0))
     → Says κs a r (atExit (more-asked-own R B) κs a (tt, (B .last (κs .1) (a .1 .0), tt)))) where
   abbrev more-asked : Thin

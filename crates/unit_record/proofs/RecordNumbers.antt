@@ -1,18 +1,23 @@
 -- The tests of a record's numbers in their order, each as it came out. Carried by rewriting with each test.
 -- Assumes nothing.
-use Rattle.unit_rules.proofs.Shared.{ℕ, _<_, _≤_, min, _≡_, false, List, le-leb, lt-leb, eqb, take, firstBad, lastOf, numbersMade}
+use Rattle.unit_rules.proofs.Shared.{ℕ, _<_, _≤_, min, _≡_, sym, ap, _∙_, false, List, map, map-id, arith, length, le-leb, lt-leb, eqb, firstBad, linesOf, lastOf, numbersMade}
+use Rattle.job_rules.specs.declared.Program.{Program}
 
-module _ (program : List ℕ) (n count c : ℕ) where
-  pub too-many-lines : 64 < n → false ≡ numbersMade program n count c
+-- a number up to the size of an array that is a field
+pub within : (l : List ℕ) (i n : ℕ) → length (map (λ (x : ℕ). x) l) ≡ n → i ≤ n → i ≤ length l
+within l i n e h = let f : length l ≡ n = sym (ap length (map-id l)) ∙ e in omega arith
+
+module _ (program : Program) (count c : ℕ) where
+  pub too-many-lines : 64 < program .n .0 → false ≡ numbersMade program count c
   too-many-lines h = rw (lt-leb _ _ h)
 
-  module _ (few : n ≤ 64) {bad : ℕ} (first : bad ≡ firstBad (take n program)) where
-    pub bad-word : bad < n → false ≡ numbersMade program n count c
+  module _ (few : program .n .0 ≤ 64) {bad : ℕ} (first : bad ≡ firstBad (linesOf program)) where
+    pub bad-word : bad < program .n .0 → false ≡ numbersMade program count c
     bad-word h = rw (le-leb _ _ few, ← first, lt-leb _ _ h)
 
-    module _ (good : n ≤ bad) {end : ℕ} (last : end ≡ lastOf n) where
-      pub beyond-last : end < c → false ≡ numbersMade program n count c
+    module _ (good : program .n .0 ≤ bad) {end : ℕ} (last : end ≡ lastOf (program .n .0)) where
+      pub beyond-last : end < c → false ≡ numbersMade program count c
       beyond-last h = rw (le-leb _ _ few, ← first, le-leb _ _ good, ← last, lt-leb _ _ h)
 
-      pub count-decides : c ≤ end → {smaller : ℕ} → smaller ≡ min c n → eqb count smaller ≡ numbersMade program n count c
+      pub count-decides : c ≤ end → {smaller : ℕ} → smaller ≡ min c (program .n .0) → eqb count smaller ≡ numbersMade program count c
       count-decides h e = rw (le-leb _ _ few, ← first, le-leb _ _ good, ← last, le-leb _ _ h, ← e)

@@ -1,7 +1,8 @@
--- For every public function: no second answer fits its contract, since the contract is one equation.
+-- For every public function: it asks nothing and no second answer fits, since its contract is one equation and has no `requires`.
 -- Assumes nothing.
-use mathlib.Core.Path.{refl, sym, _∙_}
+use mathlib.Core.Path.{refl}
 use Rattle.determined.specs.Determined.{Determined}
+use Rattle.determined.proofs.OneEquation.{by-value, no-requires}
 use Rattle.unit_record.proofs.numbers.lesser.Kinds as lesser-kinds
 use Rattle.unit_record.proofs.numbers.lesser.Reads as lesser-reads
 use Rattle.unit_record.proofs.numbers.last.Kinds as last-kinds
@@ -23,32 +24,32 @@ use Rattle.unit_record.proofs.is_drained.Reads as is-drained-reads
 use Rattle.unit_record.proofs.latches.instruction.Kinds as instruction-kinds
 use Rattle.unit_record.proofs.latches.instruction.Reads as instruction-reads
 
-pub lesser-unique : Determined 0 lesser-kinds.ps lesser-kinds.r lesser-reads.Post
-lesser-unique κs a x y v w p q = (p ∙ sym q, refl)
+pub lesser-unique : Determined 0 lesser-kinds.ps lesser-kinds.r lesser-reads.requires lesser-reads.Post
+lesser-unique = by-value (λ κs a. no-requires) (λ κs a v w. refl)
 
-pub last-unique : Determined 0 last-kinds.ps last-kinds.r last-reads.Post
-last-unique κs a x y v w p q = (p ∙ sym q, refl)
+pub last-unique : Determined 0 last-kinds.ps last-kinds.r last-reads.requires last-reads.Post
+last-unique = by-value (λ κs a. no-requires) (λ κs a v w. refl)
 
-pub numbers-made-unique : Determined 0 numbers-made-kinds.ps numbers-made-kinds.r numbers-made-reads.Post
-numbers-made-unique κs a x y v w p q = (p ∙ sym q, refl)
+pub numbers-made-unique : Determined 0 numbers-made-kinds.ps numbers-made-kinds.r numbers-made-reads.requires numbers-made-reads.Post
+numbers-made-unique = by-value (λ κs a. no-requires) (λ κs a v w. refl)
 
-pub in-decoded-unique : Determined 0 in-decoded-kinds.ps in-decoded-kinds.r in-decoded-reads.Post
-in-decoded-unique κs a x y v w p q = (p ∙ sym q, refl)
+pub in-decoded-unique : Determined 0 in-decoded-kinds.ps in-decoded-kinds.r in-decoded-reads.requires in-decoded-reads.Post
+in-decoded-unique = by-value (λ κs a. no-requires) (λ κs a v w. refl)
 
-pub in-executed-unique : Determined 0 in-executed-kinds.ps in-executed-kinds.r in-executed-reads.Post
-in-executed-unique κs a x y v w p q = (p ∙ sym q, refl)
+pub in-executed-unique : Determined 0 in-executed-kinds.ps in-executed-kinds.r in-executed-reads.requires in-executed-reads.Post
+in-executed-unique = by-value (λ κs a. no-requires) (λ κs a v w. refl)
 
-pub is-empty-unique : Determined 0 is-empty-kinds.ps is-empty-kinds.r is-empty-reads.Post
-is-empty-unique κs a x y v w p q = (p ∙ sym q, refl)
+pub is-empty-unique : Determined 0 is-empty-kinds.ps is-empty-kinds.r is-empty-reads.requires is-empty-reads.Post
+is-empty-unique = by-value (λ κs a. no-requires) (λ κs a v w. refl)
 
-pub same-held-unique : Determined 0 same-held-kinds.ps same-held-kinds.r same-held-reads.Post
-same-held-unique κs a x y v w p q = (p ∙ sym q, refl)
+pub same-held-unique : Determined 0 same-held-kinds.ps same-held-kinds.r same-held-reads.requires same-held-reads.Post
+same-held-unique = by-value (λ κs a. no-requires) (λ κs a v w. refl)
 
-pub well-made-unique : Determined 0 well-made-kinds.ps well-made-kinds.r well-made-reads.Post
-well-made-unique κs a x y v w p q = (p ∙ sym q, refl)
+pub well-made-unique : Determined 0 well-made-kinds.ps well-made-kinds.r well-made-reads.requires well-made-reads.Post
+well-made-unique = by-value (λ κs a. no-requires) (λ κs a v w. refl)
 
-pub is-drained-unique : Determined 0 is-drained-kinds.ps is-drained-kinds.r is-drained-reads.Post
-is-drained-unique κs a x y v w p q = (p ∙ sym q, refl)
+pub is-drained-unique : Determined 0 is-drained-kinds.ps is-drained-kinds.r is-drained-reads.requires is-drained-reads.Post
+is-drained-unique = by-value (λ κs a. no-requires) (λ κs a v w. refl)
 
-pub instruction-unique : Determined 0 instruction-kinds.ps instruction-kinds.r instruction-reads.Post
-instruction-unique κs a x y v w p q = (p ∙ sym q, refl)
+pub instruction-unique : Determined 0 instruction-kinds.ps instruction-kinds.r instruction-reads.requires instruction-reads.Post
+instruction-unique = by-value (λ κs a. no-requires) (λ κs a v w. refl)

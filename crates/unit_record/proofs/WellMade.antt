@@ -1,64 +1,68 @@
 -- The tests of a record in their order, each as it came out. Carried by rewriting with each test.
 -- Assumes nothing.
-use Rattle.unit_rules.proofs.Shared.{ℕ, _-_, _<_, _≤_, _≡_, refl, sym, ap, _∙_, Bool, true, false, _&&_, false≢true, List, map, map-id, arith, lt-ltb}
+use Rattle.unit_rules.proofs.Shared.{ℕ, zero, suc, _-_, _<_, _≤_, _≡_, refl, sym, _∙_, Bool, true, false, false≢true, List, map, arith, lt-ltb}
 use Rattle.unit_rules.proofs.Shared.{le-ltb, le-leb, lt-leb, leb-true, leb-false, leb, length, getD, instructionOf, inDecoded, inExecuted, isEmpty}
-use Rattle.unit_rules.proofs.Shared.{drainedOf, heldOf, sameHeld, numbersMade, wellMadeOf}
+use Rattle.unit_rules.proofs.Shared.{drainedOf, afterIF, fetchedIn, sameHeld, latchesMade, numbersMade, wellMadeOf}
+use Rattle.table.specs.declared.Count.{Count}
+use Rattle.job_rules.specs.declared.Program.{Program}
 use Rattle.unit_rules.specs.declared.Instruction.{Instruction}
 use Rattle.unit_rules.specs.declared.IfId.{IfId}
 use Rattle.unit_rules.specs.declared.IfId.the-variants as IF/ID
 use Rattle.unit_rules.specs.declared.Unit.{Unit}
-use Rattle.unit_record.proofs.RecordNumbers.{too-many-lines}
+use Rattle.unit_record.proofs.RecordNumbers.{within, too-many-lines}
 
--- a number up to the size of an array that is a field
-pub within : (l : List ℕ) (i n : ℕ) → length (map (λ (x : ℕ). x) l) ≡ n → i ≤ n → i ≤ length l
-within l i n e h = let f : length l ≡ n = sym (ap length (map-id l)) ∙ e in omega arith
+-- ---- what is fetched in a cycle
 
--- ---- what a latch should hold
+module _ (words : List ℕ) (n : Count) (c : ℕ) where
+  abbrev program : Program
+  program = record { words = words; n = n }
 
-module _ (program : List ℕ) (n k c : ℕ) where
-  pub not-begun : c < k → IF/ID.Empty ≡ heldOf program n k c
-  not-begun h = rw (lt-leb _ _ h)
+  begun : (k : ℕ) → (k ≡ 0 → ⊥) → fetchedIn program k ≡ afterIF program (k - 1)
+  begun zero h = absurd (h refl)
+  begun (suc k) h = let q : suc k - 1 ≡ k = omega arith in rw q
 
-  module _ (begun : k ≤ c) where
-    pub past-the-end : n ≤ c - k → IF/ID.Empty ≡ heldOf program n k c
-    past-the-end h = rw (le-leb _ _ begun, le-ltb _ _ h)
+  pub not-begun : c ≡ 0 → IF/ID.Empty ≡ fetchedIn program c
+  not-begun h = rw h
 
-    pub at-a-line : {i : Instruction} → c - k < n → i ≡ instructionOf (getD program (c - k) 0) → IF/ID.Holds i ≡ heldOf program n k c
-    at-a-line h e = rw (e, le-leb _ _ begun, lt-ltb _ _ h)
+  pub past-the-end : (c ≡ 0 → ⊥) → n .0 ≤ c - 1 → IF/ID.Empty ≡ fetchedIn program c
+  past-the-end some h = rw (begun c some, le-ltb _ _ h)
+
+  pub at-a-line : (c ≡ 0 → ⊥) → {i : Instruction} → c - 1 < n .0 → i ≡ instructionOf (getD words (c - 1) 0) → IF/ID.Holds i ≡ fetchedIn program c
+  at-a-line some h e = rw (e, begun c some, lt-ltb _ _ h)
 
 -- ---- three latches against what they should hold
 
-module _ (x y z f d e : IfId) {x′ : IfId} (first : x′ ≡ x) {s : Bool} (same : s ≡ sameHeld f x′) where
-  pub other-first : s ≡ false → false ≡ (sameHeld f x && sameHeld d y && sameHeld e z)
+module _ (p : Program) (c : ℕ) (f d e : IfId) {x : IfId} (first : x ≡ fetchedIn p c) {s : Bool} (same : s ≡ sameHeld f x) where
+  pub other-first : s ≡ false → false ≡ latchesMade p c f d e
   other-first h = rw (← first, ← same, h)
 
-  module _ (is : s ≡ true) {y′ : IfId} (second : y′ ≡ y) {t : Bool} (same′ : t ≡ sameHeld d y′) where
-    pub other-second : t ≡ false → false ≡ (sameHeld f x && sameHeld d y && sameHeld e z)
-    other-second h = rw (← first, ← same, is, ← second, ← same′, h)
+  module _ (is : s ≡ true) {one : ℕ} (before : one ≡ c - 1) {y : IfId} (second : y ≡ fetchedIn p one) {t : Bool} (same′ : t ≡ sameHeld d y) where
+    pub other-second : t ≡ false → false ≡ latchesMade p c f d e
+    other-second h = rw (← first, ← same, is, ← before, ← second, ← same′, h)
 
-    pub third-decides : t ≡ true → {z′ : IfId} → z′ ≡ z → {r : Bool} → r ≡ sameHeld e z′ → r ≡ (sameHeld f x && sameHeld d y && sameHeld e z)
-    third-decides is′ third o = rw (← first, ← same, is, ← second, ← same′, is′, ← third) o
+    pub third-decides : t ≡ true → {two : ℕ} → two ≡ c - 2 → {z : IfId} → z ≡ fetchedIn p two → {r : Bool} → r ≡ sameHeld e z → r ≡ latchesMade p c f d e
+    third-decides is′ before′ third o = rw (← first, ← same, is, ← before, ← second, ← same′, is′, ← before′, ← third) o
 
 -- ---- a record
 
 -- a test that came out true leaves at most 64 lines, all of them in the program's array
-pub lines-within : (l : List ℕ) (n count c : ℕ) {t : Bool} → length (map (λ (x : ℕ). x) l) ≡ 64 → t ≡ numbersMade l n count c → t ≡ true → n ≤ length l
-lines-within l n count c size test h =
-    within l n 64 size (go (leb n 64) refl)
+pub lines-within : (p : Program) (count c : ℕ) {t : Bool} → length (map (λ (x : ℕ). x) (p .words)) ≡ 64 → t ≡ numbersMade p count c → t ≡ true
+    → p .n .0 ≤ length (p .words)
+lines-within p count c size test h =
+    within (p .words) (p .n .0) 64 size (go (leb (p .n .0) 64) refl)
   where
-    go : (b : Bool) → leb n 64 ≡ b → n ≤ 64
-    go true q = leb-true n 64 q
-    go false q = absurd (false≢true (too-many-lines l n count c (leb-false n 64 q) ∙ sym test ∙ h))
+    go : (b : Bool) → leb (p .n .0) 64 ≡ b → p .n .0 ≤ 64
+    go true q = leb-true (p .n .0) 64 q
+    go false q = absurd (false≢true (too-many-lines p count c (leb-false (p .n .0) 64 q) ∙ sym test ∙ h))
 
-module _ (u : Unit) {t : Bool} (numbers : t ≡ numbersMade (u .program) (u .n .0) (u .count .0) (u .cycle)) where
+module _ (u : Unit) {t : Bool} (numbers : t ≡ numbersMade (u .program) (u .count .0) (u .cycle)) where
   pub other-numbers : t ≡ false → false ≡ wellMadeOf u
   unfolding wellMadeOf
   other-numbers h = rw (← numbers, h)
 
   pub latches-decide : t ≡ true → {d e : IfId} → d ≡ inDecoded (u .decoded) → e ≡ inExecuted (u .executed)
       → {s : Bool}
-      → s ≡ (sameHeld (u .fetched) (heldOf (u .program) (u .n .0) 1 (u .cycle)) && sameHeld d (heldOf (u .program) (u .n .0) 2 (u .cycle))
-      && sameHeld e (heldOf (u .program) (u .n .0) 3 (u .cycle)))
+      → s ≡ latchesMade (u .program) (u .cycle) (u .fetched) d e
       → s ≡ wellMadeOf u
   unfolding wellMadeOf
   latches-decide h decoded executed o = rw (← numbers, h, ← decoded, ← executed) o
@@ -66,11 +70,11 @@ module _ (u : Unit) {t : Bool} (numbers : t ≡ numbersMade (u .program) (u .n .
 -- ---- drained
 
 module _ (u : Unit) where
-  pub lines-left : u .count .0 < u .n .0 → false ≡ drainedOf u
+  pub lines-left : u .count .0 < u .program .n .0 → false ≡ drainedOf u
   unfolding drainedOf
   lines-left h = rw (lt-leb _ _ h)
 
-  module _ (all : u .n .0 ≤ u .count .0) {s : Bool} (first : s ≡ isEmpty (u .fetched)) where
+  module _ (all : u .program .n .0 ≤ u .count .0) {s : Bool} (first : s ≡ isEmpty (u .fetched)) where
     pub held-in-IF/ID : s ≡ false → false ≡ drainedOf u
     unfolding drainedOf
     held-in-IF/ID h = rw (le-leb _ _ all, ← first, h)

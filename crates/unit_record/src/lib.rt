@@ -2,9 +2,9 @@
 
 ghost use Prim.Native.Nat.{_≤_};
 ghost use mathlib.Core.Path.{_≡_};
-ghost use mathlib.Core.Bool.{_&&_};
 ghost use lib.ListN.{length};
-ghost use Rattle.unit_rules.specs.Record.{drainedOf, heldOf, sameHeld, wellMadeOf};
+ghost use Rattle.unit_rules.specs.Record.{drainedOf, latchesMade, wellMadeOf};
+ghost use Rattle.unit_rules.specs.Cycle.{fetchedIn};
 
 pub mod latches;
 pub mod numbers;
@@ -14,40 +14,41 @@ use crate::latches::in_executed;
 use crate::latches::instruction;
 use crate::latches::is_empty;
 use crate::latches::same_held;
+use crate::numbers::less;
 use crate::numbers::numbers_made;
 use table::Count;
 use unit_rules::IfId;
 use unit_rules::Unit;
 
-// Instruction c - k, or nothing outside 0 .. n - 1.
-fn should_hold(program: &[u32], n: Count, k: u32, c: u32) -> IfId
-    requires { ⌜ n .0 ≤ length (now program) ⌝ }
-    ensures { λ r. ⌜ r ≡ heldOf (now (program .entry)) (n .0) k c ⌝ }
+// What IF delivers in cycle c, counted from 1 at the start: line c - 1, or nothing outside 0 .. n - 1.
+fn fetched_in(words: &[u32], n: Count, c: u32) -> IfId
+    requires { ⌜ n .0 ≤ length (now words) ⌝ }
+    ensures { λ r. ⌜ r ≡ fetchedIn (record { words = now (words .entry); n = n }) c ⌝ }
 {
-    if c < k {
+    if c == 0 {
         return IfId::Empty;
     }
-    let line = (c - k) as usize;
+    let line = (c - 1) as usize;
     if line < n.0 as usize {
-        return IfId::Holds(instruction(program[line]));
+        return IfId::Holds(instruction(words[line]));
     }
     IfId::Empty
 }
 
 fn latches_made(
-    program: &[u32],
+    words: &[u32],
     n: Count,
     c: u32,
     fetched: IfId,
     decoded: IfId,
     executed: IfId,
 ) -> bool
-    requires { ⌜ n .0 ≤ length (now program) ⌝ }
-    ensures { λ r. ⌜ r ≡ (sameHeld fetched (heldOf (now (program .entry)) (n .0) 1 c) && sameHeld decoded (heldOf (now (program .entry)) (n .0) 2 c) && sameHeld executed (heldOf (now (program .entry)) (n .0) 3 c)) ⌝ }
+    requires { ⌜ n .0 ≤ length (now words) ⌝ }
+    ensures { λ r. ⌜ r ≡ latchesMade (record { words = now (words .entry); n = n }) c fetched decoded executed ⌝ }
 {
-    if same_held(fetched, should_hold(program, n, 1, c)) {
-        if same_held(decoded, should_hold(program, n, 2, c)) {
-            return same_held(executed, should_hold(program, n, 3, c));
+    if same_held(fetched, fetched_in(words, n, c)) {
+        if same_held(decoded, fetched_in(words, n, less(c, 1))) {
+            return same_held(executed, fetched_in(words, n, less(c, 2)));
         }
     }
     false
@@ -58,14 +59,15 @@ pub fn well_made(u: Unit) -> bool
     ensures { λ r. ⌜ r ≡ wellMadeOf u ⌝ }
 {
     let program = u.program;
-    let n = u.n;
     let count = u.count;
-    if numbers_made(program, n, count, u.cycle) {
+    if numbers_made(program, count, u.cycle) {
+        let words = u.program.words;
+        let n = u.program.n;
         let fetched = u.fetched;
         let decoded = u.decoded;
         let executed = u.executed;
         return latches_made(
-            &program,
+            &words,
             n,
             u.cycle,
             fetched,
@@ -80,9 +82,8 @@ pub fn well_made(u: Unit) -> bool
 pub fn is_drained(u: Unit) -> bool
     ensures { λ r. ⌜ r ≡ drainedOf u ⌝ }
 {
-    let n = u.n;
     let count = u.count;
-    if count.0 < n.0 {
+    if count.0 < u.program.n.0 {
         return false;
     }
     let fetched = u.fetched;

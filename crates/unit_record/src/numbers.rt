@@ -1,8 +1,9 @@
 // The numbers of a unit's record: the cycle at which a program is drained, and whether n, the count and the cycle number fit the program.
 
-ghost use Prim.Native.Nat.{min};
+ghost use Prim.Native.Nat.{_-_, min};
 ghost use mathlib.Core.Path.{_≡_};
 ghost use Rattle.unit_rules.specs.Record.{lastOf, numbersMade};
+use job_rules::Program;
 use table::Count;
 use table::refusal;
 
@@ -16,6 +17,16 @@ pub fn lesser(a: u32, b: u32) -> u32
     b
 }
 
+// What is left of a number, or 0 where it is less.
+pub(crate) fn less(c: u32, k: u32) -> u32
+    ensures { λ r. ⌜ r ≡ c - k ⌝ }
+{
+    if c < k {
+        return 0;
+    }
+    c - k
+}
+
 // The cycle number at which a program of n lines is drained.
 pub fn last(n: Count) -> u32
     ensures { λ r. ⌜ r ≡ lastOf (n .0) ⌝ }
@@ -27,14 +38,16 @@ pub fn last(n: Count) -> u32
 }
 
 // Whether n, the words, the cycle number and the count are those of a well-made record.
-pub fn numbers_made(program: [u32; 64], n: Count, count: Count, cycle: u32) -> bool
-    ensures { λ r. ⌜ r ≡ numbersMade program (n .0) (count .0) cycle ⌝ }
+pub fn numbers_made(program: Program, count: Count, cycle: u32) -> bool
+    ensures { λ r. ⌜ r ≡ numbersMade program (count .0) cycle ⌝ }
 {
+    let words = program.words;
+    let n = program.n;
     let lines = n.0 as usize;
     if lines > 64 {
         return false;
     }
-    if refusal::first_bad(&program[..lines]) < lines {
+    if refusal::first_bad(&words[..lines]) < lines {
         return false;
     }
     if last(n) < cycle {

@@ -5,13 +5,14 @@ use Rattle.unit_rules.proofs.Shared.{ℕ, zero, suc, _+_, _-_, _≤_, _
 use Rattle.unit_rules.proofs.Shared.{_∷_, add-zero, arith, eq-eqb, ne-eqb, eqb-true, eqb-false, lt-leb, le-leb, leb-true, leb-false, eqb, leb}
 use Rattle.unit_rules.proofs.Shared.{getD, set, take, drop, length, length-set, length-append, length-replicate, take-append-seam}
 use Rattle.unit_rules.proofs.Shared.{getD-set-same, getD-set-other, Register, zeroRegister, wordAt, ofBytes, DRAINED, firstBad, plain, Job}
-use Rattle.unit_rules.proofs.Shared.{ReadJob, instructionsAt, twoAt, registersAt, wordsIn, registersOf, filled, jobOf, readOf, programOf, Unit}
+use Rattle.unit_rules.proofs.Shared.{ReadJob, instructionsAt, twoAt, registersAt, wordsIn, registersOf, filled, jobOf, readOf, linesOf, Unit}
 use Rattle.unit_rules.proofs.Shared.{Cycled, Ran, cyclesOf, lastOf, goneOf, registersSet, loadedOf, startOf, cycledOf, ranOf, Whole}
 use Rattle.unit_rules.proofs.Shared.{afterCalls, Call, unitAfter, cyclesIn, unitAfterAll, cyclesInAll}
+use Rattle.table.proofs.Decided.{stops, passes, ends, not-denied}
 use Rattle.job_rules.proofs.Pieces.{length-pieces}
 use Rattle.job_rules.proofs.Refusals.{accepted, read}
 use Rattle.unit_rules.specs.Sequence.Call.{cycle, run, register, drained, refusedStart}
-use Rattle.unit_rules.proofs.Positions.{drained-after, cycles-n, cycles-number}
+use Rattle.unit_rules.proofs.Positions.{drained-after, cycles-program, cycles-number}
 use Rattle.unit_rules.proofs.WellMade.{WellMade, well-made-test, well-made-gone, well-made-cycles, cycles-join, leftOf, goes-on}
 use Rattle.unit_rules.proofs.AsPipeline.{registers-after}
 
@@ -19,9 +20,9 @@ use Rattle.unit_rules.proofs.AsPipeline.{registers-after}
 
 -- what a start relies on
 pub record Sound (j : Job) : Type 0 where
-  pub few : j .n .0 ≤ 64
-  pub lines : length (j .words) ≡ 64
-  pub good : j .n .0 ≤ firstBad (programOf j)
+  pub few : j .program .n .0 ≤ 64
+  pub lines : length (j .program .words) ≡ 64
+  pub good : j .program .n .0 ≤ firstBad (linesOf (j .program))
   pub fewer : j .r ≤ 32
   pub rows : length (j .registers) ≡ 32
 
@@ -40,7 +41,7 @@ sound-job words registers few good fewer = record {
 pub sound-read : (file : List ℕ) → readOf instructionsAt file .refusal ≡ 0 → Sound (readOf instructionsAt file .job)
 sound-read file e =
     let a = accepted instructionsAt file e in
-    let t = a .header .taken in
+    let t = a .header in
     let at = registersAt instructionsAt (twoAt file 0) in
     let words = length-pieces (λ (m : List ℕ). wordAt m 0) 4 (twoAt file 0) (drop instructionsAt file) in
     let registers = length-pieces ofBytes 16 (twoAt file 2) (drop at file) in
@@ -83,24 +84,26 @@ module _ (j : Job) (u : Unit) (s : Sound j) where
   well-made-started = well-made-gone (loadedOf j u) (s .few) (s .good)
 
   pub registers-started : Whole (u .registers) → (c : ℕ)
-      → cyclesOf c (goneOf (loadedOf j u)) .registers ≡ plain (take (c - 3) (programOf j)) (registersSet (j .r) (j .registers) (u .registers))
+      → cyclesOf c (goneOf (loadedOf j u)) .registers ≡ plain (take (c - 3) (linesOf (j .program))) (registersSet (j .r) (j .registers) (u .registers))
   registers-started whole c = registers-after (loadedOf j u) (set-whole (j .r) (j .registers) (u .registers) whole) (omega (arith, s .few, s .lines)) c
 
 -- ---- calls of `cycle` on a well-made unit
 
 module _ (u : Unit) (w : WellMade u) where
   -- the next call makes a cycle where the last is not reached, and is refused there
-  pub next-call : (c : ℕ) → u .cycle + c < lastOf (u .n .0) → cycledOf (cyclesOf c u) ≡ record { refusal = 0; unit = cyclesOf (suc c) u }
+  pub next-call : (c : ℕ) → u .cycle + c < lastOf (u .program .n .0) → cycledOf (cyclesOf c u) ≡ record { refusal = 0; unit = cyclesOf (suc c) u }
   unfolding cycledOf cyclesOf
   next-call c h =
-      rw (well-made-test (cyclesOf c u) (well-made-cycles u w c (omega arith)), drained-after u (w .placed) c, lt-leb (lastOf (u .n .0)) (u .cycle + c) h)
+      sym (passes _ _ _ (not-denied (well-made-test (cyclesOf c u) (well-made-cycles u w c (omega arith))))
+      (passes _ _ _ (drained-after u (w .placed) c ∙ lt-leb (lastOf (u .program .n .0)) (u .cycle + c) h) ends))
 
-  pub no-call : (c : ℕ) → u .cycle + c ≡ lastOf (u .n .0) → cycledOf (cyclesOf c u) ≡ record { refusal = DRAINED; unit = cyclesOf c u }
+  pub no-call : (c : ℕ) → u .cycle + c ≡ lastOf (u .program .n .0) → cycledOf (cyclesOf c u) ≡ record { refusal = DRAINED; unit = cyclesOf c u }
   unfolding cycledOf
   no-call c h =
-      rw (well-made-test (cyclesOf c u) (well-made-cycles u w c (omega arith)), drained-after u (w .placed) c, le-leb (lastOf (u .n .0)) (u .cycle + c) (omega arith))
+      sym (passes _ _ _ (not-denied (well-made-test (cyclesOf c u) (well-made-cycles u w c (omega arith))))
+      (stops _ _ (drained-after u (w .placed) c ∙ le-leb (lastOf (u .program .n .0)) (u .cycle + c) (omega arith))))
 
-  pub calls-are-cycles : (c : ℕ) → u .cycle + c ≤ lastOf (u .n .0) → afterCalls c u ≡ cyclesOf c u
+  pub calls-are-cycles : (c : ℕ) → u .cycle + c ≤ lastOf (u .program .n .0) → afterCalls c u ≡ cyclesOf c u
   unfolding cyclesOf
   calls-are-cycles zero h = refl
   calls-are-cycles (suc c) h =
@@ -114,34 +117,34 @@ start-refused file u h = rw (ne-eqb _ _ h)
 
 pub ran : (v : Unit) → WellMade v → (k : ℕ) → ranOf v k ≡ record { refusal = 0; made = min k (leftOf v); unit = cyclesOf (min k (leftOf v)) v }
 unfolding ranOf
-ran v w k = rw (well-made-test v w, goes-on k v (w .placed))
+ran v w k = sym (passes _ _ _ (not-denied (well-made-test v w)) (rw (goes-on k v (w .placed)) ends))
 
 module _ (u : Unit) (w : WellMade u) where
   -- the unit has made c cycles, and m are made by a call
   record Made (x : Call) (c : ℕ) : Type 0 where
     unit : unitAfter x (cyclesOf c u) ≡ cyclesOf (c + cyclesIn x (cyclesOf c u)) u
-    fits : u .cycle + (c + cyclesIn x (cyclesOf c u)) ≤ lastOf (u .n .0)
+    fits : u .cycle + (c + cyclesIn x (cyclesOf c u)) ≤ lastOf (u .program .n .0)
 
-  made-by : (x : Call) (c : ℕ) → u .cycle + c ≤ lastOf (u .n .0) → Made x c
-  made-by cycle c h = go (leb (lastOf (u .n .0)) (u .cycle + c)) refl
+  made-by : (x : Call) (c : ℕ) → u .cycle + c ≤ lastOf (u .program .n .0) → Made x c
+  made-by cycle c h = go (leb (lastOf (u .program .n .0)) (u .cycle + c)) refl
     where
       counted : {a : Cycled} → cycledOf (cyclesOf c u) ≡ a → cyclesIn cycle (cyclesOf c u) ≡ cond (eqb (a .refusal) 0) 1 0
       counted e = ap (λ (a : Cycled). cond (eqb (a .refusal) 0) 1 0) e
 
-      go : (t : Bool) → leb (lastOf (u .n .0)) (u .cycle + c) ≡ t → Made cycle c
+      go : (t : Bool) → leb (lastOf (u .program .n .0)) (u .cycle + c) ≡ t → Made cycle c
       go true q =
-          let e = no-call u w c (omega (arith, leb-true (lastOf (u .n .0)) (u .cycle + c) q)) in
+          let e = no-call u w c (omega (arith, leb-true (lastOf (u .program .n .0)) (u .cycle + c) q)) in
           let m : c + cyclesIn cycle (cyclesOf c u) ≡ c = omega (arith, counted e) in
           record { unit = ap (λ (a : Cycled). a .unit) e ∙ ap (λ (k : ℕ). cyclesOf k u) (sym m); fits = omega (arith, m) }
       go false q =
-          let l = leb-false (lastOf (u .n .0)) (u .cycle + c) q in
+          let l = leb-false (lastOf (u .program .n .0)) (u .cycle + c) q in
           let e = next-call u w c l in
           let m : c + cyclesIn cycle (cyclesOf c u) ≡ suc c = omega (arith, counted e) in
           record { unit = ap (λ (a : Cycled). a .unit) e ∙ ap (λ (k : ℕ). cyclesOf k u) (sym m); fits = omega (arith, m) }
   made-by (run k) c h =
       let v = cyclesOf c u in
       let e = ran v (well-made-cycles u w c h) k in
-      let left : leftOf v ≡ lastOf (u .n .0) - (u .cycle + c) = rw (cycles-n c u, cycles-number c u) in
+      let left : leftOf v ≡ lastOf (u .program .n .0) - (u .cycle + c) = rw (cycles-program c u, cycles-number c u) in
       let m : cyclesIn (run k) v ≡ min k (leftOf v) = ap (λ (a : Ran). a .made) e in
       record {
         unit = ap (λ (a : Ran). a .unit) e ∙ cycles-join c (min k (leftOf v)) u ∙ ap (λ (j : ℕ). cyclesOf (c + j) u) (sym m);
@@ -152,9 +155,9 @@ module _ (u : Unit) (w : WellMade u) where
   made-by (refusedStart file r) c h = record { unit = start-refused file (cyclesOf c u) r ∙ rw (add-zero c); fits = omega arith }
 
   -- calls one after another
-  pub all-made : (calls : List Call) (c : ℕ) → u .cycle + c ≤ lastOf (u .n .0)
+  pub all-made : (calls : List Call) (c : ℕ) → u .cycle + c ≤ lastOf (u .program .n .0)
       → (unitAfterAll calls (cyclesOf c u) ≡ cyclesOf (c + cyclesInAll calls (cyclesOf c u)) u)
-      × (u .cycle + (c + cyclesInAll calls (cyclesOf c u)) ≤ lastOf (u .n .0))
+      × (u .cycle + (c + cyclesInAll calls (cyclesOf c u)) ≤ lastOf (u .program .n .0))
   all-made [] c h = (ap (λ (k : ℕ). cyclesOf k u) (sym (add-zero c)), omega arith)
   all-made (x ∷ calls) c h =
       let m = made-by x c h in

@@ -4,13 +4,15 @@
 use Rattle.unit_rules.proofs.Shared.{ℕ, _+_, _-_, _≤_, _<_, min, _≡_, refl, sym, ap, _∙_, Bool, true, false, cond, List, map, zero-add}
 use Rattle.unit_rules.proofs.Shared.{le-refl, arith, eq-eqb, eqb-true, leb-true, leb-false, eqb, leb, getD, take, length, take-all}
 use Rattle.unit_rules.proofs.Shared.{length-take-le, Register, zeroRegister, rowOf, DRAINED, plain, plainRows, registers-as-rows, Job}
-use Rattle.unit_rules.proofs.Shared.{instructionsAt, readOf, programOf, Unit, Cycled, cyclesOf, inDecoded, inExecuted, drainedOf, lastOf}
-use Rattle.unit_rules.proofs.Shared.{heldOf, wellMadeOf, goneOf, registersSet, loadedOf, startOf, cycledOf, ranOf, Whole, afterCalls, Call}
+use Rattle.unit_rules.proofs.Shared.{instructionsAt, readOf, linesOf, Unit, fetchedIn, Cycled, cyclesOf, inDecoded, inExecuted, drainedOf, lastOf}
+use Rattle.unit_rules.proofs.Shared.{wellMadeOf, goneOf, registersSet, loadedOf, startOf, cycledOf, ranOf, askedDrained, Whole, afterCalls, Call}
 use Rattle.unit_rules.proofs.Shared.{unitAfterAll, cyclesInAll}
 use Rattle.plain_rules.specs.Answer.{answerOf, executeAllOf}
-use Rattle.plain_rules.proofs.Refusals.{all-good}
+use Rattle.plain_rules.proofs.Refusals.{executed}
+use Rattle.table.proofs.Decided.{passes, ends, not-denied}
 use Rattle.unit_rules.specs.declared.Started.{Started}
-use Rattle.unit_rules.proofs.Positions.{drained-after, placed-cycles, cycles-n, cycles-program, cycles-number}
+use Rattle.unit_rules.specs.declared.Drained.{Drained}
+use Rattle.unit_rules.proofs.Positions.{drained-after, placed-cycles, cycles-program, cycles-number}
 use Rattle.unit_rules.proofs.WellMade.{WellMade, well-made-test, well-made-cycles, cycles-join, leftOf}
 use Rattle.unit_rules.proofs.Calls.{Sound, all-made, ran, start-refused, sound-read, started-is, set-from-file, left-as-they-were, well-made-started, registers-started, next-call, no-call, calls-are-cycles}
 
@@ -37,15 +39,15 @@ pub demand3-no-leftover-later : {A : Type 0} (answer : Unit → A) (file : List 
 demand3-no-leftover-later answer file u v e same calls = ap (λ (s : Started). answer (unitAfterAll calls (s .unit))) (demand3-no-leftover file u v e same)
 
 module _ (file : List ℕ) (u : Unit) (whole : Whole (u .registers)) (accepts : startOf file u .refusal ≡ 0) where
-  -- the job that the file holds: its program of n words; the registers as the start sets them; the unit then
+  -- the job that the file holds: the n lines of its program; the registers as the start sets them; the unit then
   abbrev job : Job
   job = readOf instructionsAt file .job
 
-  abbrev program : List ℕ
-  program = programOf job
+  abbrev lines : List ℕ
+  lines = linesOf (job .program)
 
   abbrev n : ℕ
-  n = job .n .0
+  n = job .program .n .0
 
   abbrev set : List Register
   set = registersSet (job .r) (job .registers) (u .registers)
@@ -80,7 +82,7 @@ module _ (file : List ℕ) (u : Unit) (whole : Whole (u .registers)) (accepts : 
       )
 
   -- After c cycles the registers are what the plain machine leaves after the first c - 3 words, beginning from the registers as the start set them.
-  pub demand3-registers : (c : ℕ) → c ≤ lastOf n → afterCalls c started .registers ≡ plain (take (c - 3) program) set
+  pub demand3-registers : (c : ℕ) → c ≤ lastOf n → afterCalls c started .registers ≡ plain (take (c - 3) lines) set
   demand3-registers c h = ap (λ (v : Unit). v .registers) (are-cycles c h) ∙ registers-started job u sound whole c
 
   -- Drained exactly at n + 3 cycles, or at once with n = 0, and never sooner.
@@ -91,19 +93,28 @@ module _ (file : List ℕ) (u : Unit) (whole : Whole (u .registers)) (accepts : 
   pub demand3-well-made : (c : ℕ) → c ≤ lastOf n → wellMadeOf (afterCalls c started) ≡ true
   demand3-well-made c h = ap wellMadeOf (are-cycles c h) ∙ well-made-test (cyclesOf c gone) (well-made-cycles gone made c (omega arith))
 
-  -- The latches hold instructions c-1, c-2 and c-3, or nothing outside 0 .. n-1.
+  -- And so it is answered where it is asked for.
+  pub demand3-asked : (c : ℕ) → c ≤ lastOf n → _≡_ {A = Drained} (askedDrained (afterCalls c started)) (record { refusal = 0; drained = leb (lastOf n) c })
+  unfolding askedDrained
+  demand3-asked c h = sym (passes _ _ _ (not-denied (demand3-well-made c h)) (rw (demand3-drained c h) ends))
+
+  -- Its cycle number is the number of cycles since the start.
+  pub demand3-number : (c : ℕ) → c ≤ lastOf n → afterCalls c started .cycle ≡ c
+  demand3-number c h = ap (λ (v : Unit). v .cycle) (are-cycles c h) ∙ cycles-number c gone ∙ zero-add c
+
+  -- The latches hold what was fetched in cycles c, c-1 and c-2: instructions c-1, c-2 and c-3, or nothing outside 0 .. n-1.
   pub demand3-latches : (c : ℕ) → c ≤ lastOf n
-      → (afterCalls c started .fetched ≡ heldOf (job .words) n 1 c)
-      × (inDecoded (afterCalls c started .decoded) ≡ heldOf (job .words) n 2 c)
-      × (inExecuted (afterCalls c started .executed) ≡ heldOf (job .words) n 3 c)
+      → (afterCalls c started .fetched ≡ fetchedIn (job .program) c)
+      × (inDecoded (afterCalls c started .decoded) ≡ fetchedIn (job .program) (c - 1))
+      × (inExecuted (afterCalls c started .executed) ≡ fetchedIn (job .program) (c - 2))
   demand3-latches c h =
       let p = placed-cycles c gone (made .placed) in
-      let number : cyclesOf c gone .cycle ≡ c = cycles-number c gone ∙ omega arith in
-      let where-at : (k : ℕ) → heldOf (cyclesOf c gone .program) (cyclesOf c gone .n .0) k (cyclesOf c gone .cycle) ≡ heldOf (job .words) n k c
-      = λ k. rw (cycles-program c gone, cycles-n c gone, number) in (
-        ap (λ (v : Unit). v .fetched) (are-cycles c h) ∙ p .in-IF/ID ∙ where-at 1,
-        ap (λ (v : Unit). inDecoded (v .decoded)) (are-cycles c h) ∙ p .in-ID/EX ∙ where-at 2,
-        ap (λ (v : Unit). inExecuted (v .executed)) (are-cycles c h) ∙ p .in-EX/WB ∙ where-at 3,
+      let number = cycles-number c gone ∙ zero-add c in
+      let fetched : (ago : ℕ → ℕ) → fetchedIn (cyclesOf c gone .program) (ago (cyclesOf c gone .cycle)) ≡ fetchedIn (job .program) (ago c)
+      = λ ago. rw (cycles-program c gone, number) in (
+        ap (λ (v : Unit). v .fetched) (are-cycles c h) ∙ p .in-IF/ID ∙ fetched (λ k. k),
+        ap (λ (v : Unit). inDecoded (v .decoded)) (are-cycles c h) ∙ p .in-ID/EX ∙ fetched (λ k. k - 1),
+        ap (λ (v : Unit). inExecuted (v .executed)) (are-cycles c h) ∙ p .in-EX/WB ∙ fetched (λ k. k - 2),
       )
 
   -- A call of `cycle` is refused with 8 exactly when the unit is drained.
@@ -123,7 +134,7 @@ module _ (file : List ℕ) (u : Unit) (whole : Whole (u .registers)) (accepts : 
   demand3-run c h k =
       let m = min k (lastOf n - c) in
       let v : Unit = cyclesOf c gone in
-      let left : leftOf v ≡ lastOf n - c = rw (cycles-n c gone, cycles-number c gone) (omega arith) in
+      let left : leftOf v ≡ lastOf n - c = rw (cycles-program c gone, cycles-number c gone) (omega arith) in
       ap (λ (x : Unit). ranOf x k) (are-cycles c h)
       ∙ ran v (well-made-cycles gone made c (omega arith)) k
       ∙ (λ i. record { refusal = 0; made = min k (left i); unit = cyclesOf (min k (left i)) v })
@@ -133,7 +144,7 @@ module _ (file : List ℕ) (u : Unit) (whole : Whole (u .registers)) (accepts : 
   -- and its registers are the plain machine's after the first c - 3 words.
   pub demand3-until-the-next-start : (calls : List Call)
       → (let c = cyclesInAll calls started in
-      (c ≤ lastOf n) × (unitAfterAll calls started ≡ afterCalls c started) × (unitAfterAll calls started .registers ≡ plain (take (c - 3) program) set))
+      (c ≤ lastOf n) × (unitAfterAll calls started ≡ afterCalls c started) × (unitAfterAll calls started .registers ≡ plain (take (c - 3) lines) set))
   demand3-until-the-next-start calls =
       let c = cyclesInAll calls started in
       let a = all-calls calls in (
@@ -149,19 +160,19 @@ module _ (file : List ℕ) (u : Unit) (whole : Whole (u .registers)) (accepts : 
       demand3-until-the-next-start calls .1 ∙ ap (λ (c : ℕ). afterCalls c started) same ∙ sym (demand3-until-the-next-start others .1)
 
   -- As rows they are the rows of crate `plain`.
-  pub demand3-rows : (c : ℕ) → c ≤ lastOf n → map rowOf (afterCalls c started .registers) ≡ plainRows (take (c - 3) program) (map rowOf set)
-  demand3-rows c h = ap (map rowOf) (demand3-registers c h) ∙ registers-as-rows (take (c - 3) program) set
+  pub demand3-rows : (c : ℕ) → c ≤ lastOf n → map rowOf (afterCalls c started .registers) ≡ plainRows (take (c - 3) lines) (map rowOf set)
+  demand3-rows c h = ap (map rowOf) (demand3-registers c h) ∙ registers-as-rows (take (c - 3) lines) set
 
   -- Drained, they are what crate `plain` answers for the whole program.
-  pub demand3-drained-rows : executeAllOf program (map rowOf set) ≡ answerOf 0 0 (map rowOf (afterCalls (lastOf n) started .registers))
+  pub demand3-drained-rows : executeAllOf lines (map rowOf set) ≡ answerOf 0 0 (map rowOf (afterCalls (lastOf n) started .registers))
   demand3-drained-rows =
-      sym (all-good program (map rowOf set) (omega (arith, size, sound .few)) refl (omega (arith, size, sound .good)))
+      executed lines (map rowOf set) (omega (arith, size, sound .few)) (omega (arith, size, sound .good))
       ∙ ap (answerOf 0 0)
-      (ap (λ (p : List ℕ). plainRows p (map rowOf set)) (sym (take-all (lastOf n - 3) program (omega (arith, size, end))))
+      (ap (λ (p : List ℕ). plainRows p (map rowOf set)) (sym (take-all (lastOf n - 3) lines (omega (arith, size, end))))
       ∙ sym (demand3-rows (lastOf n) (le-refl (lastOf n))))
     where
-      size : length program ≡ n
-      size = length-take-le n (job .words) (omega (arith, sound .few, sound .lines))
+      size : length lines ≡ n
+      size = length-take-le n (job .program .words) (omega (arith, sound .few, sound .lines))
 
       end : n ≤ lastOf n - 3
       end = go (eqb n 0) refl

@@ -3,6 +3,7 @@ pub mod Boundaries
 pub mod Positions
 pub mod OneCycle
 pub mod WellMade
+pub mod AfterEachCycle
 pub mod AsPipeline
 pub mod Calls
 pub mod Theorems

@@ -1,8 +1,8 @@
 -- The stages on latches and single registers are those of "One cycle". Carried by the cases of each latch, and by the count: below n it is below 64.
 -- Assumes nothing.
-use Rattle.unit_rules.proofs.Shared.{ℕ, _<_, _≤_, _%_, _≡_, refl, Bool, true, false, cond, _&&_, List, arith, ltb-true, ltb, getD, set}
+use Rattle.unit_rules.proofs.Shared.{_<_, _≤_, _%_, _≡_, refl, Bool, true, false, cond, _&&_, List, arith, ltb-true, ltb, getD, set}
 use Rattle.unit_rules.proofs.Shared.{Register, Pointer, Target, None, To, takesFirst, takesSecond, takesThird, stored, IfId, IdEx, ExWb}
-use Rattle.unit_rules.proofs.Shared.{readBy, isTarget, newest, afterWB, afterEX, afterID, afterIF, writeTo, writeOf, newestBy, executedBy}
+use Rattle.unit_rules.proofs.Shared.{Program, readBy, isTarget, newest, afterWB, afterEX, afterID, afterIF, writeTo, writeOf, newestBy, executedBy}
 use Rattle.unit_rules.proofs.Shared.{sourcesOf, readAt, decodedWith, deliveredOf}
 use Rattle.unit_rules.proofs.Shared.IF/ID
 use Rattle.unit_rules.proofs.Shared.ID/EX
@@ -53,13 +53,13 @@ decode (IF/ID.Holds i) f = refl
 -- ---- 4. IF
 
 -- a count below n is below 64, so that its remainder by 64 is the count itself
-pub deliver : (program : List ℕ) (n k : Count) → n .0 ≤ 64
-    → deliveredOf n k (getD program (k .0 % 64) 0) ≡ afterIF program (n .0) (k .0)
-deliver program n k small = go (ltb (k .0) (n .0)) refl
+pub deliver : (program : Program) (k : Count) → program .n .0 ≤ 64
+    → deliveredOf (program .n) k (getD (program .words) (k .0 % 64) 0) ≡ afterIF program (k .0)
+deliver program k small = go (ltb (k .0) (program .n .0)) refl
   where
-    go : (t : Bool) → ltb (k .0) (n .0) ≡ t → deliveredOf n k (getD program (k .0 % 64) 0) ≡ afterIF program (n .0) (k .0)
+    go : (t : Bool) → ltb (k .0) (program .n .0) ≡ t → deliveredOf (program .n) k (getD (program .words) (k .0 % 64) 0) ≡ afterIF program (k .0)
     go true q =
-        let below : k .0 < n .0 = ltb-true (k .0) (n .0) q in
+        let below : k .0 < program .n .0 = ltb-true (k .0) (program .n .0) q in
         let same : k .0 % 64 ≡ k .0 = omega arith in
         rw same
     go false q = rw q

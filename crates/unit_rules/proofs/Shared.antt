@@ -1,7 +1,7 @@
 -- What the proofs of this crate and of those above it bring in from elsewhere, in one place: libraries, definitions, and laws of the crates below.
 -- Assumes nothing.
 pub use Prim.Native.Nat.{ℕ, zero, suc, _-_, _≤_, _<_, min, _+_, _%_, _*_}
-pub use mathlib.Core.Path.{_≡_, refl, sym, ap, _∙_, subst, subst⁻¹}
+pub use mathlib.Core.Path.{_≡_, refl, sym, ap, _∙_, subst}
 pub use mathlib.Core.Bool.{Bool, true, false, cond, _&&_, false≢true, and-false}
 pub use mathlib.Core.List.{List, [], _∷_, map, _++_, map-id}
 pub use mathlib.Core.Logic.{_↔_, ⊎-elim, _⊎_}
@@ -10,7 +10,7 @@ pub use native.Mathlib.Omega.{arith}
 pub use native.Mathlib.Nat.{add-zero, zero-add, le-refl, add-suc, add-assoc}
 pub use borrow.Author.Tests.{eqb-true, eqb-false, ltb-true, ltb-false, eq-eqb, ne-eqb, lt-leb, le-leb, leb-true, leb-false, lt-ltb, le-ltb}
 pub use borrow.Author.Needs.{needs}
-pub use lib.Dec.{eqb, ltb, leb, leb·zero, leb·suc-suc}
+pub use lib.Dec.{eqb, ltb, leb, leb·zero}
 pub use lib.ListN.{getD, set, take, length, length-set, drop, length-append, length-replicate, replicate, length-drop}
 pub use lib.Seq.{getD-set-same, getD-set-other, getD-take, take-suc, take-all, length-take-le, take-append-seam, take-at, sets-eq}
 pub use Rattle.register.specs.declared.Register.{Register}
@@ -32,24 +32,25 @@ pub use Rattle.job_rules.specs.declared.ReadJob.{ReadJob}
 pub use Rattle.job_rules.specs.Layout.{instructionsAt, twoAt, registersAt, wordsIn, registersOf, LARGEST}
 pub use Rattle.job_rules.specs.Read.{filled, jobOf, readOf}
 unfoldable pub use Rattle.job_rules.specs.Read.{headerOf, testedOf, bodyOf}
-pub use Rattle.job_rules.specs.Write.{programOf}
+pub use Rattle.job_rules.specs.declared.Program.{Program}
+pub use Rattle.job_rules.specs.Program.{linesOf}
 pub use Rattle.unit_rules.specs.declared.IfId.{IfId}
 pub use Rattle.unit_rules.specs.declared.IdEx.{IdEx}
 pub use Rattle.unit_rules.specs.declared.ExWb.{ExWb}
 pub use Rattle.unit_rules.specs.declared.Unit.{Unit}
 pub use Rattle.unit_rules.specs.Cycle.{instructionOf, afterWB, isTarget, newestOperands, operandsIn, afterEX, afterID, afterIF, readBy, newest}
-pub use Rattle.unit_rules.specs.Cycle.{countAfter}
+pub use Rattle.unit_rules.specs.Cycle.{instructionAt, given, countAfter, fetchedIn}
 unfoldable pub use Rattle.unit_rules.specs.Cycle.{cycleOf, cyclesOf}
 pub use Rattle.unit_rules.specs.Calls.{goneOf, registersSet, loadedOf, freshOf, begunOf, startedBy}
 unfoldable pub use Rattle.unit_rules.specs.Calls.{startOf, cycledOf, ranOf, registerOf, askedDrained, goesOn}
 pub use Rattle.unit_rules.specs.Sequence.{Whole, afterCalls, Call, unitAfter, cyclesIn, unitAfterAll, cyclesInAll}
 pub use Rattle.unit_rules.specs.declared.Cycled.{Cycled}
 pub use Rattle.unit_rules.specs.declared.Ran.{Ran}
-pub use Rattle.unit_rules.specs.Record.{lastOf, inDecoded, inExecuted, heldOf, isEmpty, sameTarget, sameInstruction, sameHeld, numbersMade}
+pub use Rattle.unit_rules.specs.Record.{lastOf, inDecoded, inExecuted, isEmpty, sameTarget, sameInstruction, sameHeld, numbersMade}
 pub use Rattle.unit_rules.specs.Record.{latchesMade}
 unfoldable pub use Rattle.unit_rules.specs.Record.{drainedOf, wellMadeOf}
 pub use Rattle.unit_rules.specs.Stages.{writeTo, newestBy, executedBy, sourcesOf, readAt, decodedWith, deliveredOf, inFlightOf, unitWith}
-pub use Rattle.unit_rules.specs.Stages.{advancedOf, nextCount}
+pub use Rattle.unit_rules.specs.Stages.{advancedOf}
 unfoldable pub use Rattle.unit_rules.specs.Stages.{writeOf}
 pub use Rattle.unit_rules.specs.declared.ExWb.the-variants as EX/WB
 pub use Rattle.unit_rules.specs.declared.IdEx.the-variants as ID/EX

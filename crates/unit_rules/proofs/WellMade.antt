@@ -1,24 +1,24 @@
 -- A well-made record, in document 01's words as equations, and the test of it. Carried by the laws of `Positions`; the comparison of latches is equality.
 -- Assumes nothing.
 use Rattle.unit_rules.proofs.Shared.{ℕ, zero, suc, _+_, _-_, _≤_, min, _≡_, refl, sym, ap, _∙_, Bool, true, false, cond, _&&_, false≢true}
-use Rattle.unit_rules.proofs.Shared.{add-zero, add-suc, arith, le-leb, leb-true, leb-false, eqb-true, eq-eqb, eqb, leb, take, Target, None, To}
-use Rattle.unit_rules.proofs.Shared.{firstBad, IfId, Unit, cycleOf, cyclesOf, inDecoded, inExecuted, drainedOf, lastOf, heldOf, sameTarget}
-use Rattle.unit_rules.proofs.Shared.{sameInstruction, sameHeld, numbersMade, latchesMade, wellMadeOf, goneOf, goesOn}
+use Rattle.unit_rules.proofs.Shared.{add-zero, add-suc, arith, le-leb, leb-true, leb-false, eqb-true, eq-eqb, eqb, leb, Target, None, To}
+use Rattle.unit_rules.proofs.Shared.{firstBad, linesOf, IfId, Unit, fetchedIn, cycleOf, cyclesOf, inDecoded, inExecuted, drainedOf, lastOf, sameTarget}
+use Rattle.unit_rules.proofs.Shared.{sameInstruction, sameHeld, numbersMade, wellMadeOf, goneOf, goesOn}
 use Rattle.unit_rules.proofs.Shared.IF/ID
 use Rattle.unit_rules.specs.declared.Instruction.{Instruction}
-use Rattle.unit_rules.proofs.Positions.{Placed, placed-cycle, placed-cycles, drained-is, cycles-n, cycles-program, cycles-number}
+use Rattle.unit_rules.proofs.Positions.{Placed, placed-cycle, placed-cycles, drained-is, cycles-program, cycles-number}
 
 -- "n is at most 64, its n words are below 2^25, the cycle number c is at most n+3 (0 when n is 0), the count is the smaller of c and n, and the latches
 -- hold instructions c-1, c-2 and c-3, or nothing outside 0 .. n-1"
 pub record WellMade (u : Unit) : Type 0 where
-  pub few : u .n .0 ≤ 64
-  pub good : u .n .0 ≤ firstBad (take (u .n .0) (u .program))
-  pub reached : u .cycle ≤ lastOf (u .n .0)
+  pub few : u .program .n .0 ≤ 64
+  pub good : u .program .n .0 ≤ firstBad (linesOf (u .program))
+  pub reached : u .cycle ≤ lastOf (u .program .n .0)
   pub placed : Placed u
 
 -- ---- the comparison of latches is equality
 
-both : (a b : Bool) → (a && b) ≡ true → (a ≡ true) × (b ≡ true)
+pub both : (a b : Bool) → (a && b) ≡ true → (a ≡ true) × (b ≡ true)
 both true b e = (refl, e)
 both false b e = absurd (false≢true e)
 
@@ -71,13 +71,13 @@ held-same {x} {y} e = sym (ap (sameHeld x) e) ∙ itself x
 pub well-made-says : (u : Unit) → wellMadeOf u ≡ true → WellMade u
 unfolding wellMadeOf
 well-made-says u e =
-    let n = u .n .0 in
-    let split = both (numbersMade (u .program) (u .n .0) (u .count .0) (u .cycle)) (latchesMade u) e in
+    let n = u .program .n .0 in
+    let split = both (numbersMade (u .program) (u .count .0) (u .cycle)) _ e in
     let a = both _ (eqb (u .count .0) (min (u .cycle) n)) (split .0) in
     let b = both _ (leb (u .cycle) (lastOf n)) (a .0) in
-    let c = both (leb n 64) (leb n (firstBad (take n (u .program)))) (b .0) in
-    let x = both _ (sameHeld (inExecuted (u .executed)) (heldOf (u .program) n 3 (u .cycle))) (split .1) in
-    let y = both (sameHeld (u .fetched) (heldOf (u .program) n 1 (u .cycle))) (sameHeld (inDecoded (u .decoded)) (heldOf (u .program) n 2 (u .cycle))) (x .0) in
+    let c = both (leb n 64) (leb n (firstBad (linesOf (u .program)))) (b .0) in
+    let x = both _ (sameHeld (inExecuted (u .executed)) (fetchedIn (u .program) (u .cycle - 2))) (split .1) in
+    let y = both (sameHeld (u .fetched) (fetchedIn (u .program) (u .cycle))) (sameHeld (inDecoded (u .decoded)) (fetchedIn (u .program) (u .cycle - 1))) (x .0) in
     record {
       few = leb-true _ _ (c .0);
       good = leb-true _ _ (c .1);
@@ -91,10 +91,10 @@ well-made-says u e =
     }
 
 -- "67 at most"
-pub last-small : (u : Unit) → wellMadeOf u ≡ true → lastOf (u .n .0) ≤ 67
-last-small u made = go (eqb (u .n .0) 0)
+pub last-small : (u : Unit) → wellMadeOf u ≡ true → lastOf (u .program .n .0) ≤ 67
+last-small u made = go (eqb (u .program .n .0) 0)
   where
-    go : (t : Bool) → cond t 0 (u .n .0 + 3) ≤ 67
+    go : (t : Bool) → cond t 0 (u .program .n .0 + 3) ≤ 67
     go true = omega arith
     go false = omega (arith, well-made-says u made .few)
 
@@ -108,7 +108,7 @@ well-made-test u w =
 
 -- ---- well made from a go on
 
-pub well-made-gone : (u : Unit) → u .n .0 ≤ 64 → u .n .0 ≤ firstBad (take (u .n .0) (u .program)) → WellMade (goneOf u)
+pub well-made-gone : (u : Unit) → u .program .n .0 ≤ 64 → u .program .n .0 ≤ firstBad (linesOf (u .program)) → WellMade (goneOf u)
 well-made-gone u few good = record {
   few = few;
   good = good;
@@ -116,12 +116,12 @@ well-made-gone u few good = record {
   placed = record { counted = omega arith; in-IF/ID = refl; in-ID/EX = refl; in-EX/WB = refl };
 }
 
-pub well-made-cycles : (u : Unit) → WellMade u → (c : ℕ) → u .cycle + c ≤ lastOf (u .n .0) → WellMade (cyclesOf c u)
+pub well-made-cycles : (u : Unit) → WellMade u → (c : ℕ) → u .cycle + c ≤ lastOf (u .program .n .0) → WellMade (cyclesOf c u)
 well-made-cycles u w c h =
     record {
-      few = rw (cycles-n c u) (w .few);
-      good = rw (cycles-n c u, cycles-program c u) (w .good);
-      reached = rw (cycles-n c u, cycles-number c u) h;
+      few = rw (cycles-program c u) (w .few);
+      good = rw (cycles-program c u) (w .good);
+      reached = rw (cycles-program c u, cycles-number c u) h;
       placed = placed-cycles c u (w .placed);
     }
 
@@ -134,7 +134,7 @@ cycles-join c (suc d) u = rw (add-suc c d) (ap cycleOf (cycles-join c d u))
 
 -- how many cycles a unit has left
 abbrev pub leftOf : Unit → ℕ
-leftOf u = lastOf (u .n .0) - u .cycle
+leftOf u = lastOf (u .program .n .0) - u .cycle
 
 pub goes-on : (k : ℕ) (u : Unit) → Placed u → goesOn k u ≡ (min k (leftOf u), cyclesOf (min k (leftOf u)) u)
 unfolding goesOn cyclesOf cycleOf
@@ -144,11 +144,11 @@ goes-on (suc k) u h = go (drainedOf u) refl (goes-on k (cycleOf u) (placed-cycle
     go : (t : Bool) → drainedOf u ≡ t → goesOn k (cycleOf u) ≡ (min k (leftOf (cycleOf u)), cyclesOf (min k (leftOf (cycleOf u))) (cycleOf u))
         → _≡_ {A = ℕ × Unit} (cond t (0, u) (goesOn k (cycleOf u) .0 + 1, goesOn k (cycleOf u) .1)) (min (suc k) (leftOf u), cyclesOf (min (suc k) (leftOf u)) u)
     go true q later =
-        let last = leb-true (lastOf (u .n .0)) (u .cycle) (sym (drained-is u h) ∙ q) in
+        let last = leb-true (lastOf (u .program .n .0)) (u .cycle) (sym (drained-is u h) ∙ q) in
         let m : min (suc k) (leftOf u) ≡ 0 = omega arith in
         rw m
     go false q later =
-        let more = leb-false (lastOf (u .n .0)) (u .cycle) (sym (drained-is u h) ∙ q) in
+        let more = leb-false (lastOf (u .program .n .0)) (u .cycle) (sym (drained-is u h) ∙ q) in
         let rest : ℕ = min k (leftOf (cycleOf u)) in
         let m : min (suc k) (leftOf u) ≡ 1 + rest = omega arith in
         let count : rest + 1 ≡ 1 + rest = omega arith in

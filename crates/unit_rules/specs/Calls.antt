@@ -2,14 +2,15 @@
 -- Assumes nothing.
 use Prim.Native.Nat.{ℕ, zero, suc, _+_}
 use mathlib.Core.Bool.{false, cond, not}
-use mathlib.Core.List.{List}
+use mathlib.Core.List.{List, [], _∷_}
 use lib.Dec.{eqb, ltb}
 use lib.ListN.{getD, set, replicate}
 use Rattle.register.specs.declared.Register.{Register}
 use Rattle.register.specs.Layout.{zeroRegister}
-use Rattle.table.specs.declared.Count.{Count}
+use Rattle.table.specs.Decided.{decided}
 use Rattle.table.specs.Refusal.{POINTER, DRAINED, STATE}
 use Rattle.job_rules.specs.declared.Job.{Job}
+use Rattle.job_rules.specs.declared.Program.{Program}
 use Rattle.job_rules.specs.declared.ReadJob.{ReadJob}
 use Rattle.job_rules.specs.Layout.{instructionsAt}
 use Rattle.job_rules.specs.Read.{readOf}
@@ -27,11 +28,10 @@ use Rattle.unit_rules.specs.Record.{drainedOf, wellMadeOf}
 
 -- ---- a start
 
--- a unit before its first cycle, on a program of n lines and some registers
-abbrev pub begunOf : List ℕ → Count → List Register → Unit
-begunOf program n registers = record {
+-- a unit before its first cycle, on a program and some registers
+abbrev pub begunOf : Program → List Register → Unit
+begunOf program registers = record {
   program = program;
-  n = n;
   count = record { 0 = 0 };
   cycle = 0;
   registers = registers;
@@ -42,7 +42,7 @@ begunOf program n registers = record {
 
 -- "A fresh unit has n = 0, registers zero, and is drained."
 abbrev pub freshOf : Unit
-freshOf = begunOf (replicate 64 0) (record { 0 = 0 }) (replicate 32 zeroRegister)
+freshOf = begunOf (record { words = replicate 64 0; n = record { 0 = 0 } }) (replicate 32 zeroRegister)
 
 -- "A start sets registers 0 .. r-1 from the file; the others keep what they held."
 abbrev pub registersSet : ℕ → List Register → List Register → List Register
@@ -52,8 +52,7 @@ registersSet (suc i) file f = set (registersSet i file f) i (getD file i zeroReg
 -- a load sets program and registers
 abbrev pub loadedOf : Job → Unit → Unit
 loadedOf job u = record {
-  program = job .words;
-  n = job .n;
+  program = job .program;
   count = u .count;
   cycle = u .cycle;
   registers = registersSet (job .r) (job .registers) (u .registers);
@@ -64,7 +63,7 @@ loadedOf job u = record {
 
 -- "A start empties the latches and puts count and cycle number to zero; what a broken-off job had not yet written is lost.": a go
 abbrev pub goneOf : Unit → Unit
-goneOf u = begunOf (u .program) (u .n) (u .registers)
+goneOf u = begunOf (u .program) (u .registers)
 
 -- a start is a go after a load; it "tests 1 to 6", as reading does; refused, the unit "comes back as it was given"
 abbrev pub startedBy : ReadJob → Unit → Started
@@ -82,9 +81,11 @@ startOf file u = startedBy (readOf instructionsAt file) u
 -- "then a cycle tests 8"
 unfoldable pub cycledOf : Unit → Cycled
 cycledOf u =
-    cond (not (wellMadeOf u)) (record { refusal = STATE; unit = u })
-    (cond (drainedOf u) (record { refusal = DRAINED; unit = u })
-    (record { refusal = 0; unit = cycleOf u }))
+    decided
+    ((not (wellMadeOf u), record { refusal = STATE; unit = u })
+    ∷ (drainedOf u, record { refusal = DRAINED; unit = u })
+    ∷ [])
+    (record { refusal = 0; unit = cycleOf u })
 
 -- as many cycles as the budget allows and the unit has left: how many, and the unit afterwards
 unfoldable pub goesOn : ℕ → Unit → ℕ × Unit
@@ -94,15 +95,23 @@ goesOn (suc k) u = cond (drainedOf u) (0, u) (goesOn k (cycleOf u) .0 + 1, goesO
 -- "A run with a budget k makes min(k, cycles left) cycles and answers that number; drained, it answers 0 and is not refused."
 unfoldable pub ranOf : Unit → ℕ → Ran
 ranOf u k =
-    cond (not (wellMadeOf u)) (record { refusal = STATE; made = 0; unit = u })
+    decided
+    ((not (wellMadeOf u), record { refusal = STATE; made = 0; unit = u })
+    ∷ [])
     (record { refusal = 0; made = goesOn k u .0; unit = goesOn k u .1 })
 
 -- "and a register asked by number 7"
 unfoldable pub registerOf : Unit → ℕ → RegisterAnswer
 registerOf u i =
-    cond (not (wellMadeOf u)) (record { refusal = STATE; register = zeroRegister })
-    (cond (ltb 31 i) (record { refusal = POINTER; register = zeroRegister })
-    (record { refusal = 0; register = getD (u .registers) i zeroRegister }))
+    decided
+    ((not (wellMadeOf u), record { refusal = STATE; register = zeroRegister })
+    ∷ (ltb 31 i, record { refusal = POINTER; register = zeroRegister })
+    ∷ [])
+    (record { refusal = 0; register = getD (u .registers) i zeroRegister })
 
 unfoldable pub askedDrained : Unit → Drained
-askedDrained u = cond (not (wellMadeOf u)) (record { refusal = STATE; drained = false }) (record { refusal = 0; drained = drainedOf u })
+askedDrained u =
+    decided
+    ((not (wellMadeOf u), record { refusal = STATE; drained = false })
+    ∷ [])
+    (record { refusal = 0; drained = drainedOf u })

@@ -13,8 +13,10 @@ use Rattle.table.specs.declared.Target.{Target}
 use Rattle.table.specs.declared.Target.the-variants.{None, To}
 use Rattle.table.specs.Fields.{firstOf, rs2Of, rs3Of}
 use Rattle.table.specs.Operation.{operationOf, readsOf, takesFirst, takesSecond, takesThird, targetOf}
-use Rattle.alu_rules.specs.Result.{resultOf}
+use Rattle.alu_rules.specs.declared.Outcome.{Outcome}
+use Rattle.alu_rules.specs.Result.{outcomeOf}
 use Rattle.plain_rules.specs.Machine.{stored}
+use Rattle.job_rules.specs.declared.Program.{Program}
 use Rattle.unit_rules.specs.declared.Instruction.{Instruction}
 use Rattle.unit_rules.specs.declared.Operands.{Operands}
 use Rattle.unit_rules.specs.declared.IfId.{IfId}
@@ -28,6 +30,10 @@ use Rattle.unit_rules.specs.declared.Unit.{Unit}
 -- the instruction of a word
 abbrev pub instructionOf : ℕ → Instruction
 instructionOf w = record { word = w; first = firstOf w; second = rs2Of w; third = rs3Of w; target = targetOf w }
+
+-- an instruction is a line of a program: line k, from 0
+abbrev pub instructionAt : Program → ℕ → Instruction
+instructionAt program k = instructionOf (getD (program .words) k 0)
 
 -- "1. WB writes its value to rd, unless it is empty or holds a NOP."
 abbrev pub afterWB : ExWb → List Register → List Register
@@ -54,9 +60,12 @@ newestOperands wb i o = record {
   third = newest wb (takesThird (readBy i)) (i .third) (o .third);
 }
 
--- what an instruction gives from its operands, by the table
+-- what an instruction gives from its operands, by the table, and the latch that holds it
+abbrev pub given : Instruction → Operands → Outcome
+given i o = outcomeOf (i .word) (o .first) (o .second) (o .third)
+
 abbrev pub worked : Instruction → Operands → ExWb
-worked i o = EX/WB.Holds i (record { value = resultOf (i .word) (o .first) (o .second) (o .third) })
+worked i o = EX/WB.Holds i (given i o)
 
 -- "2. EX works with the values latched in ID."
 abbrev pub afterEX : ExWb → IdEx → ExWb
@@ -76,8 +85,8 @@ afterID IF/ID.Empty f = ID/EX.Empty
 afterID (IF/ID.Holds i) f = ID/EX.Holds i (operandsIn i f)
 
 -- "4. IF fetches at the program count and adds one. At count n or above it delivers nothing, and the count stays."
-abbrev pub afterIF : List ℕ → ℕ → ℕ → IfId
-afterIF program n k = cond (ltb k n) (IF/ID.Holds (instructionOf (getD program k 0))) IF/ID.Empty
+abbrev pub afterIF : Program → ℕ → IfId
+afterIF program k = cond (ltb k (program .n .0)) (IF/ID.Holds (instructionAt program k)) IF/ID.Empty
 
 abbrev pub countAfter : ℕ → ℕ → ℕ
 countAfter n k = cond (ltb k n) (k + 1) k
@@ -85,14 +94,18 @@ countAfter n k = cond (ltb k n) (k + 1) k
 unfoldable pub cycleOf : Unit → Unit
 cycleOf u = record {
   program = u .program;
-  n = u .n;
-  count = record { 0 = countAfter (u .n .0) (u .count .0) };
+  count = record { 0 = countAfter (u .program .n .0) (u .count .0) };
   cycle = u .cycle + 1;
   registers = afterWB (u .executed) (u .registers);
-  fetched = afterIF (u .program) (u .n .0) (u .count .0);
+  fetched = afterIF (u .program) (u .count .0);
   decoded = afterID (u .fetched) (afterWB (u .executed) (u .registers));
   executed = afterEX (u .executed) (u .decoded);
 }
+
+-- what IF delivers in cycle c since a start: "in cycle c, counted from 1 at the start," instruction c-1 "(from 0), or nothing outside 0 .. n-1"
+abbrev pub fetchedIn : Program → ℕ → IfId
+fetchedIn program zero = IF/ID.Empty
+fetchedIn program (suc k) = afterIF program k
 
 -- so many cycles, one after another
 unfoldable pub cyclesOf : ℕ → Unit → Unit

@@ -2,12 +2,12 @@
 -- Assumes nothing.
 use Prim.Native.Nat.{ℕ, _+_, _-_, min}
 use mathlib.Core.Bool.{Bool, true, false, cond, _&&_}
-use mathlib.Core.List.{List}
 use lib.Dec.{eqb, leb}
-use lib.ListN.{take}
 use Rattle.table.specs.declared.Target.{Target}
 use Rattle.table.specs.declared.Target.the-variants.{None, To}
 use Rattle.table.specs.Refusal.{firstBad}
+use Rattle.job_rules.specs.declared.Program.{Program}
+use Rattle.job_rules.specs.Program.{linesOf}
 use Rattle.unit_rules.specs.declared.Instruction.{Instruction}
 use Rattle.unit_rules.specs.declared.IfId.{IfId}
 use Rattle.unit_rules.specs.declared.IfId.the-variants as IF/ID
@@ -16,7 +16,7 @@ use Rattle.unit_rules.specs.declared.IdEx.the-variants as ID/EX
 use Rattle.unit_rules.specs.declared.ExWb.{ExWb}
 use Rattle.unit_rules.specs.declared.ExWb.the-variants as EX/WB
 use Rattle.unit_rules.specs.declared.Unit.{Unit}
-use Rattle.unit_rules.specs.Cycle.{afterIF}
+use Rattle.unit_rules.specs.Cycle.{fetchedIn}
 
 -- the instruction that a latch holds, or nothing, without its values
 abbrev pub inDecoded : IdEx → IfId
@@ -34,16 +34,12 @@ isEmpty (IF/ID.Holds i) = false
 -- "The unit is drained when the count has reached n and all latches are empty."
 unfoldable pub drainedOf : Unit → Bool
 drainedOf u =
-    leb (u .n .0) (u .count .0)
+    leb (u .program .n .0) (u .count .0)
     && isEmpty (u .fetched) && isEmpty (inDecoded (u .decoded)) && isEmpty (inExecuted (u .executed))
 
 -- "n+3 (0 when n is 0)"
 abbrev pub lastOf : ℕ → ℕ
 lastOf n = cond (eqb n 0) 0 (n + 3)
-
--- "instructions c-1, c-2 and c-3, or nothing outside 0 .. n-1": instruction c-k of n
-abbrev pub heldOf : List ℕ → ℕ → ℕ → ℕ → IfId
-heldOf program n k c = cond (leb k c) (afterIF program n (c - k)) IF/ID.Empty
 
 -- the same instruction, the word and all that a latch says of it
 abbrev pub sameTarget : Target → Target → Bool
@@ -65,15 +61,16 @@ sameHeld (IF/ID.Holds i) IF/ID.Empty = false
 sameHeld (IF/ID.Holds i) (IF/ID.Holds j) = sameInstruction i j
 
 -- "n is at most 64, its n words are below 2^25, the cycle number c is at most n+3 (0 when n is 0), the count is the smaller of c and n"
-abbrev pub numbersMade : List ℕ → ℕ → ℕ → ℕ → Bool
-numbersMade program n count c = leb n 64 && leb n (firstBad (take n program)) && leb c (lastOf n) && eqb count (min c n)
+abbrev pub numbersMade : Program → ℕ → ℕ → Bool
+numbersMade program count c =
+    leb (program .n .0) 64 && leb (program .n .0) (firstBad (linesOf program)) && leb c (lastOf (program .n .0)) && eqb count (min c (program .n .0))
 
--- "and the latches hold instructions c-1, c-2 and c-3, or nothing outside 0 .. n-1"
-abbrev pub latchesMade : Unit → Bool
-latchesMade u =
-    sameHeld (u .fetched) (heldOf (u .program) (u .n .0) 1 (u .cycle))
-    && sameHeld (inDecoded (u .decoded)) (heldOf (u .program) (u .n .0) 2 (u .cycle))
-    && sameHeld (inExecuted (u .executed)) (heldOf (u .program) (u .n .0) 3 (u .cycle))
+-- "and the latches hold instructions c-1, c-2 and c-3, or nothing outside 0 .. n-1": what was fetched in cycles c, c-1 and c-2; in cycle 0 nothing was
+abbrev pub latchesMade : Program → ℕ → IfId → IfId → IfId → Bool
+latchesMade program c fetched decoded executed =
+    sameHeld fetched (fetchedIn program c) && sameHeld decoded (fetchedIn program (c - 1)) && sameHeld executed (fetchedIn program (c - 2))
 
 unfoldable pub wellMadeOf : Unit → Bool
-wellMadeOf u = numbersMade (u .program) (u .n .0) (u .count .0) (u .cycle) && latchesMade u
+wellMadeOf u =
+    numbersMade (u .program) (u .count .0) (u .cycle)
+    && latchesMade (u .program) (u .cycle) (u .fetched) (inDecoded (u .decoded)) (inExecuted (u .executed))

@@ -82,7 +82,6 @@ inFlightOf u = record { count = u .count; fetched = u .fetched; decoded = u .dec
 abbrev pub unitWith : Unit → ℕ → List Register → InFlight → Unit
 unitWith u c f l = record {
   program = u .program;
-  n = u .n;
   count = l .count;
   cycle = u .cycle + c;
   registers = f;

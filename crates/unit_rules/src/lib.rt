@@ -1,6 +1,8 @@
 // The unit's record and what its calls answer. What a cycle, a start and the other calls make of it is defined in `specs/`; demand 3 is in
 // `proofs/Demand3.antt`. There is no code.
 
+use alu_rules::Outcome;
+use job_rules::Program;
 use register::Register;
 use table::Count;
 use table::Pointer;
@@ -20,11 +22,6 @@ pub struct Operands {
     pub first: Register,
     pub second: Register,
     pub third: Register,
-}
-
-// What EX has made of them.
-pub struct Outcome {
-    pub value: Register,
 }
 
 // The latch between IF and ID.
@@ -47,14 +44,13 @@ pub enum IdEx {
 pub enum ExWb {
     // nothing was executed
     Empty,
-    // an instruction, and what it gave
+    // an instruction, and what EX has made of it
     Holds(Instruction, Outcome),
 }
 
-// The unit: a program of n lines in front of 64 words, the count of lines fetched, the cycles since the start, the registers and the latches.
+// The unit: its program, the count of lines fetched, the cycles since the start, the registers and the latches.
 pub struct Unit {
-    pub program: [u32; 64],
-    pub n: Count,
+    pub program: Program,
     pub count: Count,
     pub cycle: u32,
     pub registers: [Register; 32],

@@ -1,7 +1,8 @@
--- For every public function: no second answer fits its contract, since the contract is one equation.
+-- For every public function: it asks nothing and no second answer fits, since its contract is one equation and has no `requires`.
 -- Assumes nothing.
-use mathlib.Core.Path.{refl, sym, _∙_}
+use mathlib.Core.Path.{refl}
 use Rattle.determined.specs.Determined.{Determined}
+use Rattle.determined.proofs.OneEquation.{by-value, no-requires}
 use Rattle.unit_stages.proofs.fetch.delivered.Kinds as delivered-kinds
 use Rattle.unit_stages.proofs.fetch.delivered.Reads as delivered-reads
 use Rattle.unit_stages.proofs.fetch.next_count.Kinds as next-count-kinds
@@ -25,35 +26,35 @@ use Rattle.unit_stages.proofs.in_flight.Reads as in-flight-reads
 use Rattle.unit_stages.proofs.advanced.Kinds as advanced-kinds
 use Rattle.unit_stages.proofs.advanced.Reads as advanced-reads
 
-pub delivered-unique : Determined 0 delivered-kinds.ps delivered-kinds.r delivered-reads.Post
-delivered-unique κs a x y v w p q = (p ∙ sym q, refl)
+pub delivered-unique : Determined 0 delivered-kinds.ps delivered-kinds.r delivered-reads.requires delivered-reads.Post
+delivered-unique = by-value (λ κs a. no-requires) (λ κs a v w. refl)
 
-pub next-count-unique : Determined 0 next-count-kinds.ps next-count-kinds.r next-count-reads.Post
-next-count-unique κs a x y v w p q = (p ∙ sym q, refl)
+pub next-count-unique : Determined 0 next-count-kinds.ps next-count-kinds.r next-count-reads.requires next-count-reads.Post
+next-count-unique = by-value (λ κs a. no-requires) (λ κs a v w. refl)
 
-pub written-unique : Determined 0 written-kinds.ps written-kinds.r written-reads.Post
-written-unique κs a x y v w p q = (p ∙ sym q, refl)
+pub written-unique : Determined 0 written-kinds.ps written-kinds.r written-reads.requires written-reads.Post
+written-unique = by-value (λ κs a. no-requires) (λ κs a v w. refl)
 
-pub takes-second-unique : Determined 0 takes-second-kinds.ps takes-second-kinds.r takes-second-reads.Post
-takes-second-unique κs a x y v w p q = (p ∙ sym q, refl)
+pub takes-second-unique : Determined 0 takes-second-kinds.ps takes-second-kinds.r takes-second-reads.requires takes-second-reads.Post
+takes-second-unique = by-value (λ κs a. no-requires) (λ κs a v w. refl)
 
-pub takes-third-unique : Determined 0 takes-third-kinds.ps takes-third-kinds.r takes-third-reads.Post
-takes-third-unique κs a x y v w p q = (p ∙ sym q, refl)
+pub takes-third-unique : Determined 0 takes-third-kinds.ps takes-third-kinds.r takes-third-reads.requires takes-third-reads.Post
+takes-third-unique = by-value (λ κs a. no-requires) (λ κs a v w. refl)
 
-pub newest-operands-unique : Determined 0 newest-operands-kinds.ps newest-operands-kinds.r newest-operands-reads.Post
-newest-operands-unique κs a x y v w p q = (p ∙ sym q, refl)
+pub newest-operands-unique : Determined 0 newest-operands-kinds.ps newest-operands-kinds.r newest-operands-reads.requires newest-operands-reads.Post
+newest-operands-unique = by-value (λ κs a. no-requires) (λ κs a v w. refl)
 
-pub executed-unique : Determined 0 executed-kinds.ps executed-kinds.r executed-reads.Post
-executed-unique κs a x y v w p q = (p ∙ sym q, refl)
+pub executed-unique : Determined 0 executed-kinds.ps executed-kinds.r executed-reads.requires executed-reads.Post
+executed-unique = by-value (λ κs a. no-requires) (λ κs a v w. refl)
 
-pub read-from-unique : Determined 0 read-from-kinds.ps read-from-kinds.r read-from-reads.Post
-read-from-unique κs a x y v w p q = (p ∙ sym q, refl)
+pub read-from-unique : Determined 0 read-from-kinds.ps read-from-kinds.r read-from-reads.requires read-from-reads.Post
+read-from-unique = by-value (λ κs a. no-requires) (λ κs a v w. refl)
 
-pub decoded-unique : Determined 0 decoded-kinds.ps decoded-kinds.r decoded-reads.Post
-decoded-unique κs a x y v w p q = (p ∙ sym q, refl)
+pub decoded-unique : Determined 0 decoded-kinds.ps decoded-kinds.r decoded-reads.requires decoded-reads.Post
+decoded-unique = by-value (λ κs a. no-requires) (λ κs a v w. refl)
 
-pub in-flight-unique : Determined 0 in-flight-kinds.ps in-flight-kinds.r in-flight-reads.Post
-in-flight-unique κs a x y v w p q = (p ∙ sym q, refl)
+pub in-flight-unique : Determined 0 in-flight-kinds.ps in-flight-kinds.r in-flight-reads.requires in-flight-reads.Post
+in-flight-unique = by-value (λ κs a. no-requires) (λ κs a v w. refl)
 
-pub advanced-unique : Determined 0 advanced-kinds.ps advanced-kinds.r advanced-reads.Post
-advanced-unique κs a x y v w p q = (p ∙ sym q, refl)
+pub advanced-unique : Determined 0 advanced-kinds.ps advanced-kinds.r advanced-reads.requires advanced-reads.Post
+advanced-unique = by-value (λ κs a. no-requires) (λ κs a v w. refl)

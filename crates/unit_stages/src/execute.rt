@@ -9,14 +9,12 @@ use unit_rules::ExWb;
 use unit_rules::IdEx;
 use unit_rules::Instruction;
 use unit_rules::Operands;
-use unit_rules::Outcome;
 use unit_rules::Write;
 
 fn work(i: Instruction, o: Operands) -> ExWb
     ensures { λ r. ⌜ r ≡ worked i o ⌝ }
 {
-    let value = result(i.word, o.first, o.second, o.third);
-    ExWb::Holds(i, Outcome { value: value })
+    ExWb::Holds(i, result(i.word, o.first, o.second, o.third))
 }
 
 // EX's latch after the cycle.

@@ -3,8 +3,9 @@ use Rattle.plain.proofs.new_row as this
 
 returns : this.Tie.Need-returns
 returns c =
-    let read = c .before .before in
-    rw (c .before .result .ensures, read .before .before .from-row .ensures, read .before .from-row2 .ensures, read .from-row3 .ensures)
+    let given = c .before .before in
+    let read = given .before in
+    rw (given .result .ensures, read .before .before .from-row .ensures, read .before .from-row2 .ensures, read .from-row3 .ensures)
     at (c .to-row .ensures)
 
 pub new-row-spec : {M : Type 1} → this.Statement.statement M

@@ -1,4 +1,4 @@
--- For the reader of specs/: an operation across registers is that operation at every lane, as document 01 numbers lanes.
+-- An operation across registers is that operation at every word, halfword and long, as document 01 numbers them. Carried by `word-lane`.
 -- Assumes nothing.
 use Prim.Native.Nat.{ℕ, zero, suc, _+_, _/_, _%_, _^_, _<_}
 use mathlib.Core.Path.{_≡_, refl, sym, ap, ap₂, _∙_}
@@ -24,6 +24,9 @@ pub at-words : (f : ℕ → ℕ → ℕ → ℕ) → Keeps 32 f → (a b c : Reg
 at-words f keeps a b c ha hb hc i l =
     word-lane i _ fits ∙ in-row ∙ sym (λ j. f (word-lane i a ha j) (word-lane i b hb j) (word-lane i c hc j))
   where
+    in-row : getD (rowOf (words₃ f a b c)) i 0 ≡ f (getD (rowOf a) i 0) (getD (rowOf b) i 0) (getD (rowOf c) i 0)
+    in-row = word-by-word (λ (n : ℕ). f (getD (rowOf a) n 0) (getD (rowOf b) n 0) (getD (rowOf c) n 0)) _ refl refl refl refl i l
+
     fits : Held (words₃ f a b c)
     fits = record {
       w0-fits = keeps (a .w0) (b .w0) (c .w0) (ha .w0-fits) (hb .w0-fits) (hc .w0-fits);
@@ -31,9 +34,6 @@ at-words f keeps a b c ha hb hc i l =
       w2-fits = keeps (a .w2) (b .w2) (c .w2) (ha .w2-fits) (hb .w2-fits) (hc .w2-fits);
       w3-fits = keeps (a .w3) (b .w3) (c .w3) (ha .w3-fits) (hb .w3-fits) (hc .w3-fits);
     }
-
-    in-row : getD (rowOf (words₃ f a b c)) i 0 ≡ f (getD (rowOf a) i 0) (getD (rowOf b) i 0) (getD (rowOf c) i 0)
-    in-row = word-by-word (λ (n : ℕ). f (getD (rowOf a) n 0) (getD (rowOf b) n 0) (getD (rowOf c) n 0)) _ refl refl refl refl i l
 
 pub at-halfwords : (f : ℕ → ℕ → ℕ) → ((x y : ℕ) → x < 2 ^ 16 → y < 2 ^ 16 → f x y < 2 ^ 16)
     → (a b : Register) → Held a → Held b
@@ -75,13 +75,13 @@ pub at-longs : (f : ℕ → ℕ → ℕ → ℕ) → Keeps 64 f → (a b c : Reg
 at-longs f keeps a b c ha hb hc i l =
     long-lane i _ fits ∙ in-row i l ∙ sym (λ j. f (long-lane i a ha j) (long-lane i b hb j) (long-lane i c hc j))
   where
+    in-row : (n : ℕ) → n < 2 → long (longs₃ f a b c) n ≡ f (long a n) (long b n) (long c n)
+    in-row zero m = pow.split (f (long a 0) (long b 0) (long c 0)) 32
+    in-row (suc zero) m = pow.split (f (long a 1) (long b 1) (long c 1)) 32
+    in-row (suc (suc n)) m = absurd (omega arith)
+
     fits : Held (longs₃ f a b c)
     fits =
         longs-held
         (keeps _ _ _ (long-1-fits ha) (long-1-fits hb) (long-1-fits hc))
         (keeps _ _ _ (long-0-fits ha) (long-0-fits hb) (long-0-fits hc))
-
-    in-row : (n : ℕ) → n < 2 → long (longs₃ f a b c) n ≡ f (long a n) (long b n) (long c n)
-    in-row zero m = pow.split (f (long a 0) (long b 0) (long c 0)) 32
-    in-row (suc zero) m = pow.split (f (long a 1) (long b 1) (long c 1)) 32
-    in-row (suc (suc n)) m = absurd (omega arith)

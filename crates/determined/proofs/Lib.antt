@@ -1,0 +1,2 @@
+pub mod OneEquation
+pub mod Theorems
