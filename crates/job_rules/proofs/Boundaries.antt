@@ -1,10 +1,10 @@
--- Each refusal of reader and writer at its boundary: what is just refused, and what is just not. Carried by computing the tests.
+-- Each refusal of reader and writer at its boundary, by document 01's number: what is just refused, and what is just not. Carried by computing the tests.
 -- Assumes nothing.
 use Prim.Native.Nat.{ℕ, _-_}
 use mathlib.Core.Path.{_≡_, refl}
 use mathlib.Core.List.{List, [], _∷_, _++_, flatMap}
 use lib.ListN.{take, replicate}
-use Rattle.table.specs.Refusal.{SHORT, COUNT, REGS, PLACE, LENGTH, WORD, ROOM, firstBad}
+use Rattle.table.specs.Refusal.{firstBad}
 use Rattle.table.specs.Decided.{decided}
 use Rattle.job_rules.specs.declared.ReadJob.{ReadJob}
 use Rattle.job_rules.specs.Layout.{twoBytes, encode}
@@ -32,13 +32,13 @@ pub reading : (read 0 0 8 8 7 ∷ read 0 0 8 8 8
     ∷ read 1 0 9 12 12 ∷ read 1 0 8 13 12 ∷ read 1 1 8 12 27 ∷ read 1 1 8 12 29 ∷ read 1 1 8 12 28
     ∷ readWords (0x1FFFFFF ∷ 0x2000000 ∷ 0x2000000 ∷ []) .refusal ∷ readWords (0x1FFFFFF ∷ 0x2000000 ∷ 0x2000000 ∷ []) .place
     ∷ readWords (0x1FFFFFF ∷ []) .refusal ∷ [])
-    ≡ (SHORT ∷ 0 ∷ COUNT ∷ 0 ∷ REGS ∷ 0 ∷ PLACE ∷ PLACE ∷ LENGTH ∷ LENGTH ∷ 0 ∷ WORD ∷ 1 ∷ 0 ∷ [])
+    ≡ (1 ∷ 0 ∷ 2 ∷ 0 ∷ 3 ∷ 0 ∷ 4 ∷ 4 ∷ 5 ∷ 5 ∷ 0 ∷ 6 ∷ 1 ∷ 0 ∷ [])
 unfolding headerOf testedOf bodyOf decided encode firstBad flatMap
 reading = refl
 
 -- where two faults meet, the first test answers
 pub reading-order : (read 65 33 9 9 7 ∷ read 65 33 9 9 8 ∷ read 64 33 9 9 8 ∷ read 64 32 9 9 8 ∷ read 64 32 8 9 8 ∷ read 64 32 8 264 8 ∷ [])
-    ≡ (SHORT ∷ COUNT ∷ REGS ∷ PLACE ∷ PLACE ∷ LENGTH ∷ [])
+    ≡ (1 ∷ 2 ∷ 3 ∷ 4 ∷ 4 ∷ 5 ∷ [])
 unfolding headerOf testedOf bodyOf decided
 reading-order = refl
 
@@ -46,11 +46,11 @@ pub writing : (written (replicate 65 0) 0 1000 ∷ written (replicate 64 0) 0 10
     ∷ written [] 528 1000 ∷ written [] 512 1000 ∷ written [] 8 1000
     ∷ written (0x1FFFFFF ∷ 0x2000000 ∷ []) 0 100 ∷ place (0x1FFFFFF ∷ 0x2000000 ∷ 0x2000000 ∷ [])
     ∷ written (0 ∷ []) 16 27 ∷ written (0 ∷ []) 16 28 ∷ [])
-    ≡ (COUNT ∷ 0 ∷ REGS ∷ 0 ∷ REGS ∷ WORD ∷ 1 ∷ ROOM ∷ 0 ∷ [])
+    ≡ (2 ∷ 0 ∷ 3 ∷ 0 ∷ 3 ∷ 6 ∷ 1 ∷ 9 ∷ 0 ∷ [])
 unfolding sizeOrRefusal decided encode firstBad flatMap
 writing = refl
 
 pub writing-order : (written (replicate 65 (0x2000000)) 8 0 ∷ written (replicate 64 (0x2000000)) 8 0 ∷ written (replicate 64 (0x2000000)) 0 0 ∷ written [] 0 0 ∷ [])
-    ≡ (COUNT ∷ REGS ∷ WORD ∷ ROOM ∷ [])
+    ≡ (2 ∷ 3 ∷ 6 ∷ 9 ∷ [])
 unfolding sizeOrRefusal decided encode firstBad flatMap
 writing-order = refl

@@ -13,11 +13,15 @@ use lib.Pow as pow
 use Rattle.register.specs.Halves.{low, high, half}
 use Rattle.register.proofs.Joined.{join-lt}
 use Rattle.register.specs.declared.Register.{Register}
-use Rattle.register.specs.Layout.{lane, rowOf, ofRow, ofBytes, bytesOf, bytesOfWord, withHalf, withHalfword}
+use Rattle.register.specs.Layout.{number, lane, zeroRegister, rowOf, ofRow, ofBytes, bytesOf, bytesOfWord, withHalf, withHalfword}
 use Rattle.register.proofs.WordBounds.{Held}
 use Rattle.register.proofs.Lanes.{value, digit-at, number-in-words, word-lane, half-lane, word-by-word}
 use Rattle.register.proofs.ByteOrder.{word-of-its-bytes, value-of-word, digits-of-word, next-four, bytes-of-word-at, all-dropped}
 use Rattle.register.proofs.Equality.{same}
+
+-- "a known zero": all 128 bits are 0
+pub zero-bits : number zeroRegister ≡ 0
+zero-bits = refl
 
 -- ---- rows and bytes
 

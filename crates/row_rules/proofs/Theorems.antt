@@ -4,13 +4,13 @@
 use Prim.Native.Nat.{ℕ, zero, suc, _+_, _-_, _*_, _/_, _%_, _^_, _≤_, _<_}
 use mathlib.Core.Path.{_≡_, refl, sym, ap, subst, _∙_}
 use mathlib.Core.Logic.{_↔_}
-use mathlib.Core.Bool.{true, false, cond}
+use mathlib.Core.Bool.{Bool, true, false, cond}
 use mathlib.Core.List.{List, [], _∷_, _++_, append-assoc}
 use native.Mathlib.Nat.{le-of-suc-le-suc, zero-add, pow-succ', one-le-pow}
 use native.Mathlib.Omega.{arith}
 use borrow.Author.Tests.{ltb-true, lt-ltb, le-ltb}
 use lib.Arith.{mod-mul}
-use lib.Dec.{ltb, lit<}
+use lib.Dec.{eqb, ltb, lit<}
 use lib.ListN.{length, getD, take, drop, replicate, length-drop, List·getD-map}
 use lib.Seq.{take-at, drop-at, drop-drop, length-take-le}
 use Rattle.buffer.specs.Front.{fromStart}
@@ -18,8 +18,9 @@ use Rattle.table.specs.Refusal.{ROOM}
 use Rattle.table.proofs.Decided.{stops, passes, ends, apart, each}
 use Rattle.row_rules.specs.declared.Stage.the-variants.{Empty, Holds}
 use Rattle.row_rules.specs.declared.Change.the-variants.{To}
+use Rattle.row_rules.specs.declared.Flags.{Flags}
 use Rattle.row_rules.specs.declared.Row.{Row}
-use Rattle.row_rules.specs.Text.{digit, hexDigits, twoDigits, stageText, flagsText, numberText, registerText, valueText, newline, rowText, rowSize, rowAt}
+use Rattle.row_rules.specs.Text.{digit, hexDigits, twoDigits, stageText, flagText, flagsText, numberText, registerText, valueText, newline, rowText, rowSize, rowAt}
 use Rattle.row_rules.proofs.Lengths.{two-long, stage-long, flags-long, number-long, value-long}
 
 -- ---- the text
@@ -120,6 +121,16 @@ same-two m n e =
     let ones = same-digit (m % 10) (n % 10) (omega arith) (omega arith) (ap (λ (l : List ℕ). getD l 1 0) e) in
     omega arith
 
+-- "three flags for rs1, rs2, rs3", each the digit 1 exactly where it is raised
+flag-told : (raised : Bool) → eqb (flagText raised) 49 ≡ raised
+flag-told true = refl
+flag-told false = refl
+
+pub flags-told : (f : Flags)
+    → (eqb (getD (flagsText f) 0 0) 49 ≡ f .rs1) × (eqb (getD (flagsText f) 1 0) 49 ≡ f .rs2) × (eqb (getD (flagsText f) 2 0) 49 ≡ f .rs3)
+unfolding flagsText
+flags-told f = (flag-told (f .rs1), flag-told (f .rs2), flag-told (f .rs3))
+
 -- ---- the answer
 
 around : (a k : ℕ) (p xs : List ℕ) → length p ≡ k → a + k ≤ length xs
@@ -168,14 +179,14 @@ module _ (r : Row) (start : ℕ) (buffer : List ℕ) where
 
 -- ---- two rows, computed
 
--- the largest numbers: 67 0ABCDEF 1FFFFFF ------- 1234567 001 31 89ABCDEF0123456776543210FEDCBA98
+-- the largest numbers: 67 0ABCDEF 1FFFFFF ------- 1234567 101 31 89ABCDEF0123456776543210FEDCBA98
 pub row-sixty-seven : rowText (record {
   cycle = 67;
   fetch = Holds 0xABCDEF;
   decode = Holds 0x1FFFFFF;
   execute = Empty;
   write = Holds 0x1234567;
-  flags = record { rs1 = false; rs2 = false; rs3 = true };
+  flags = record { rs1 = true; rs2 = false; rs3 = true };
   change = To (record { 0 = 31 }) (record { value = record { w0 = 0xFEDCBA98; w1 = 0x76543210; w2 = 0x1234567; w3 = 0x89ABCDEF } });
 })
     ≡ 54 ∷ 55
@@ -183,7 +194,7 @@ pub row-sixty-seven : rowText (record {
     ∷ 32 ∷ 49 ∷ 70 ∷ 70 ∷ 70 ∷ 70 ∷ 70 ∷ 70
     ∷ 32 ∷ 45 ∷ 45 ∷ 45 ∷ 45 ∷ 45 ∷ 45 ∷ 45
     ∷ 32 ∷ 49 ∷ 50 ∷ 51 ∷ 52 ∷ 53 ∷ 54 ∷ 55
-    ∷ 32 ∷ 48 ∷ 48 ∷ 49
+    ∷ 32 ∷ 49 ∷ 48 ∷ 49
     ∷ 32 ∷ 51 ∷ 49
     ∷ 32 ∷ 56 ∷ 57 ∷ 65 ∷ 66 ∷ 67 ∷ 68 ∷ 69 ∷ 70 ∷ 48 ∷ 49 ∷ 50 ∷ 51 ∷ 52 ∷ 53 ∷ 54 ∷ 55
     ∷ 55 ∷ 54 ∷ 53 ∷ 52 ∷ 51 ∷ 50 ∷ 49 ∷ 48 ∷ 70 ∷ 69 ∷ 68 ∷ 67 ∷ 66 ∷ 65 ∷ 57 ∷ 56

@@ -1,5 +1,6 @@
 pub mod Rows
 pub mod Places
 pub mod Decided
+pub mod Assembled
 pub mod Theorems
 pub mod Unique

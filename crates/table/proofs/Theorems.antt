@@ -1,18 +1,46 @@
--- For the reader of specs/: the words that write nothing are exactly those whose operation is NOP, and every other word writes its rd.
+-- For the reader of specs/: the "reads" column as it is printed, row by row; the words that write nothing are exactly those whose operation is NOP, and every other
+-- word writes its rd; the refusal numbers.
 -- Assumes nothing.
 use Prim.Native.Nat.{ℕ, zero, suc, _<_}
 use mathlib.Core.Path.{_≡_, refl, sym, ap, _∙_}
 use mathlib.Core.Bool.{Bool, true, false, cond}
-use mathlib.Core.List.{List, [], _∷_}
+use mathlib.Core.List.{List, [], _∷_, map}
 use native.Mathlib.Omega.{arith}
 use lib.Dec.{eqb, eqb·suc-zero}
 use lib.ListN.{getD, getD-replicate, List·getD-map}
 use Rattle.table.specs.declared.Target.the-variants.{None, To}
 use Rattle.table.specs.Fields.{isLi, isMultiply, isLong, isSubtract, isHigh, codeOf, rdOf}
-use Rattle.table.specs.Operation.{Operation, multiplyRow, shortRows, operationOf, isNop, targetOf}
+use Rattle.table.specs.Operation.{Operation, multiplyRow, shortRows, operationOf, readsOf, takesFirst, takesSecond, takesThird, isNop, targetOf}
 use Rattle.table.specs.Operation.Operation.{li, simal, simah, simsl, simsh, slmal, slmah, slmsl, slmsh}
+use Rattle.table.specs.Refusal.{SHORT, COUNT, REGS, PLACE, LENGTH, WORD, POINTER, DRAINED, ROOM, STATE}
 use Rattle.table.proofs.Rows.{each-choice}
 use Rattle.table.specs.Operation.Operation.{nop, shrhi, au, cntih, ahs, or, bcw, maxws, minws, mlhu, mlhcu, and, clzw, rotw, sfwu, sfhs}
+
+-- ---- what is read
+
+-- which of the three operands a row takes; li's first is its rd
+abbrev pub taken : Operation → Bool × Bool × Bool
+taken o = (takesFirst (readsOf o), takesSecond (readsOf o), takesThird (readsOf o))
+
+abbrev none : Bool × Bool × Bool
+none = (false, false, false)
+
+abbrev one : Bool × Bool × Bool
+one = (true, false, false)
+
+abbrev two : Bool × Bool × Bool
+two = (true, true, false)
+
+abbrev three : Bool × Bool × Bool
+three = (true, true, true)
+
+-- "li reads rd"; "Multiply-add and multiply-subtract read rs1, rs2 and rs3"; the column of the rows 0 to 15
+pub columns : (taken li ≡ one)
+    × ((long subtract high : Bool) → taken (multiplyRow long subtract high) ≡ three)
+    × (map taken shortRows ≡ (none ∷ one ∷ two ∷ one ∷ two ∷ two ∷ one ∷ two ∷ two ∷ two ∷ one ∷ two ∷ one ∷ two ∷ two ∷ two ∷ []))
+columns = (refl, each-choice (λ x y z. taken (multiplyRow x y z) ≡ three) refl refl refl refl refl refl refl refl, refl)
+
+-- ---- what is written
 
 abbrev pub nop? : Operation → Bool
 nop? li = false
@@ -65,3 +93,9 @@ nop-by-its-code w = by-tests (isLi w) (isMultiply w) (isLong w) (isSubtract w) (
 pub writes-by-operation : (w : ℕ) → targetOf w ≡ cond (nop? (operationOf w)) None (To (rdOf w))
 unfolding targetOf
 writes-by-operation w = ap (λ (t : Bool). cond t None (To (rdOf w))) (sym (nop-by-its-code w))
+
+-- ---- refusal numbers
+
+-- in document 01's order they are 1 to 10
+pub refusal-numbers : (SHORT ∷ COUNT ∷ REGS ∷ PLACE ∷ LENGTH ∷ WORD ∷ POINTER ∷ DRAINED ∷ ROOM ∷ STATE ∷ []) ≡ (1 ∷ 2 ∷ 3 ∷ 4 ∷ 5 ∷ 6 ∷ 7 ∷ 8 ∷ 9 ∷ 10 ∷ [])
+refusal-numbers = refl

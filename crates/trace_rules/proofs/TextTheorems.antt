@@ -55,6 +55,15 @@ text-size file = go (eqb (startOf file freshOf .refusal) 0) refl
     go false q =
         rw (refused-text file (eqb-false (startOf file freshOf .refusal) 0 q)) (omega (arith, refused-long (startOf file freshOf .refusal) .1))
 
+-- and a job of 64 lines has one so large
+pub largest-reached : (file : List ℕ) → startOf file freshOf .refusal ≡ 0 → startOf file freshOf .unit .program .n .0 ≡ 64
+    → length (jobText file) ≡ largestText
+largest-reached file ok full =
+    let u = startOf file freshOf .unit in
+    let none-made : u .cycle ≡ 0 = ap (λ (v : Unit). v .cycle) (started-is file freshOf ok) in
+    let end : lastOf (u .program .n .0) ≡ 67 = ap lastOf full in
+    rw (← (text-accepted file refl refl ok)) (omega (arith, trace-long u (started-made file refl refl ok) refl))
+
 pub always-room : (file buffer : List ℕ) → largestText ≤ length buffer
     → writeTextOf file buffer ≡ (record { refusal = 0; size = length (jobText file) }, atFront (jobText file) buffer)
 always-room file buffer h = sym (text-put (jobText file) buffer (omega (arith, text-size file)) refl refl)

@@ -1,13 +1,14 @@
 -- For the reader of specs/: what a row says is what happened. Carried by where the latches are (`Positions` of `unit_rules`) and by the cases of a latch.
 -- Assumes nothing.
 use Rattle.unit_rules.proofs.Shared.{ℕ, zero, suc, _+_, _-_, _<_, _≤_, _≡_, refl, sym, ap, subst, _∙_, _⊎_, ⊎-elim, Bool, true, false, cond, _&&_}
-use Rattle.unit_rules.proofs.Shared.{and-false, List, [], _∷_, map, arith, leb-false, lt-ltb, lt-leb, ltb, length, take, DRAINED, ROOM, Register, Pointer, Target, None, isLi}
+use Rattle.unit_rules.proofs.Shared.{and-false, List, map, arith, leb-false, lt-ltb, lt-leb, ltb, length, take, DRAINED, ROOM, Register, Pointer, Target, None, isLi}
 use Rattle.unit_rules.proofs.Shared.{rdOf, firstOf, rs2Of, rs3Of, Operation, operationOf, readsOf, takesSecond, takesThird, isNop, targetOf, stored}
 use Rattle.unit_rules.proofs.Shared.{plain, instructionsAt, readOf, linesOf, instructionOf, instructionAt, fetchedIn, isTarget, afterWB, cycleOf, inDecoded}
 use Rattle.unit_rules.proofs.Shared.{inExecuted, lastOf, drainedOf, wellMadeOf, registersSet, startOf, cycledOf, Whole, afterCalls}
 use Rattle.table.specs.declared.Target.the-variants.{To as ToRegister}
 use Rattle.table.specs.Operation.{multiplyRow, shortRows}
 use Rattle.table.proofs.Rows.{each-choice}
+use Rattle.table.proofs.Theorems.{taken}
 use Rattle.table.proofs.Decided.{stops, passes, ends, apart, each, not-denied}
 use Rattle.alu_rules.specs.declared.Outcome.{Outcome}
 use Rattle.job_rules.specs.declared.Program.{Program}
@@ -145,29 +146,18 @@ row-flags u made =
     let here = well-made-says u made .placed .in-ID/EX in
     flags-by (u .executed) (u .decoded) (subst OfItsWord (sym here) (fetched-of-its-word (u .program) (u .cycle - 1)))
 
--- which of rs1, rs2 and rs3 raise a flag: the "reads" column for each of the 25 rows, and nothing for li, which "has no rs1, rs2 or rs3"
-abbrev Fields : Type 0
-Fields = Bool × Bool × Bool
-
-abbrev none : Fields
-none = (false, false, false)
-
-abbrev one : Fields
-one = (true, false, false)
-
-abbrev two : Fields
-two = (true, true, false)
-
-abbrev three : Fields
-three = (true, true, true)
-
-abbrev raisedBy : Operation → Fields
+-- which of rs1, rs2 and rs3 raise a flag: those of the "reads" column, for each of the 25 rows, and none for li, which "has no rs1, rs2 or rs3"
+abbrev raisedBy : Operation → Bool × Bool × Bool
 raisedBy o = (readsRs1 (readsOf o), takesSecond (readsOf o), takesThird (readsOf o))
 
-pub flag-columns : (raisedBy Operation.li ≡ none)
-    × ((long subtract high : Bool) → raisedBy (multiplyRow long subtract high) ≡ three)
-    × (map raisedBy shortRows ≡ (none ∷ one ∷ two ∷ one ∷ two ∷ two ∷ one ∷ two ∷ two ∷ two ∷ one ∷ two ∷ one ∷ two ∷ two ∷ two ∷ []))
-flag-columns = (refl, each-choice (λ x y z. raisedBy (multiplyRow x y z) ≡ three) refl refl refl refl refl refl refl refl, refl)
+pub flag-columns : (raisedBy Operation.li ≡ (false, false, false))
+    × ((long subtract high : Bool) → raisedBy (multiplyRow long subtract high) ≡ taken (multiplyRow long subtract high))
+    × (map raisedBy shortRows ≡ map taken shortRows)
+flag-columns = (
+  refl,
+  each-choice (λ x y z. raisedBy (multiplyRow x y z) ≡ taken (multiplyRow x y z)) refl refl refl refl refl refl refl refl,
+  refl,
+)
 
 -- "li has no rs1, rs2 or rs3, so its flags are 000"
 pub li-raises-nothing : (w : ℕ) (x : Change) → isLi w ≡ true → flagsShown (In.Holds w) x ≡ record { rs1 = false; rs2 = false; rs3 = false }

@@ -7,11 +7,11 @@ use Prim.Native.Nat.{ℕ}
 use mathlib.Core.List.{List, [], _∷_}
 use lib.ListN.{length, replicate}
 use Rattle.table.specs.Decided.{decided}
-use Rattle.table.specs.Refusal.{POINTER, STATE, firstBad}
+use Rattle.table.specs.Refusal.{firstBad}
 use Rattle.job_rules.specs.declared.Program.{Program}
 use Rattle.unit_rules.specs.declared.Unit.{Unit}
 use Rattle.unit_rules.specs.Record.{numbersMade, drainedOf, wellMadeOf}
-use Rattle.unit_rules.specs.Calls.{freshOf, cycledOf, ranOf, registerOf, askedDrained}
+use Rattle.unit_rules.specs.Calls.{freshOf, cycledOf, goesOn, ranOf, registerOf, askedDrained}
 
 -- a program of these lines
 abbrev lines : List ℕ → Program
@@ -26,9 +26,14 @@ pub numbers : (numbersMade (lines (replicate 64 0)) 64 67 ∷ numbersMade (lines
 unfolding firstBad
 numbers = refl
 
-pub register-numbers : (registerOf freshOf 31 .refusal ∷ registerOf freshOf 32 .refusal ∷ []) ≡ (0 ∷ POINTER ∷ [])
+pub register-numbers : (registerOf freshOf 31 .refusal ∷ registerOf freshOf 32 .refusal ∷ []) ≡ (0 ∷ 7 ∷ [])
 unfolding registerOf decided wellMadeOf firstBad
 register-numbers = refl
+
+-- "a single cycle asked of a drained unit"; a run is not refused
+pub drained-unit : (cycledOf freshOf .refusal ∷ ranOf freshOf 1 .refusal ∷ ranOf freshOf 1 .made ∷ []) ≡ (8 ∷ 0 ∷ 0 ∷ [])
+unfolding cycledOf ranOf goesOn decided wellMadeOf drainedOf firstBad
+drained-unit = refl
 
 -- "tests 10 first": of a drained unit that is not well made, at cycle 1 of no lines, and a register over 31
 abbrev illMade : Unit
@@ -43,6 +48,6 @@ illMade = record {
 }
 
 pub state-first : (cycledOf illMade .refusal ∷ ranOf illMade 1 .refusal ∷ registerOf illMade 32 .refusal ∷ askedDrained illMade .refusal ∷ [])
-    ≡ (STATE ∷ STATE ∷ STATE ∷ STATE ∷ [])
+    ≡ (10 ∷ 10 ∷ 10 ∷ 10 ∷ [])
 unfolding cycledOf ranOf registerOf askedDrained decided wellMadeOf drainedOf firstBad
 state-first = refl
