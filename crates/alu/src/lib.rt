@@ -50,7 +50,7 @@ fn short_result(w: u32, rs1: Register, rs2: Register) -> Register
     }
 }
 
-// The result of a word. An operand that the table says is not read has no effect.
+// What a word gives. An operand that the table says is not read has no effect.
 pub fn result(w: u32, rs1: Register, rs2: Register, rs3: Register) -> Outcome
     ensures { λ r. ⌜ r ≡ outcomeOf w rs1 rs2 rs3 ⌝ }
 {

@@ -1,4 +1,4 @@
--- "A public function asks nothing of its input, and it is proved that no second answer fits": what that says of a function's contract.
+-- "It is proved that no second answer fits", and a public function asks nothing of its input: what both say of a function's contract.
 -- Assumes nothing.
 use Prim.Native.Nat.{ℕ}
 use mathlib.Core.Path.{_≡_}

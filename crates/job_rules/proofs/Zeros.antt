@@ -22,6 +22,26 @@ every-answer P refused bad job l = go (headerOf instructionsAt l)
     go (Counts n r) =
         each P _ _ (bad _, tt) (job (wordsIn (n .0) (drop instructionsAt l)) (registersOf r (drop (registersAt instructionsAt (n .0)) l)))
 
+-- a job of zeros
+pub record Zeros (j : Job) : Type 0 where
+  pub n : j .program .n .0 ≡ 0
+  pub words : j .program .words ≡ replicate 64 0
+  pub r : j .r ≡ 0
+  pub registers : j .registers ≡ replicate 32 zeroRegister
+
+-- "Every refusal returns its number and zeros elsewhere": a file that is refused comes back as a job of zeros.
+pub refused-zeros : (l : List ℕ) → (readOf instructionsAt l .refusal ≡ 0 → ⊥) → Zeros (readOf instructionsAt l .job)
+refused-zeros =
+    every-answer (λ (v : ReadJob). (v .refusal ≡ 0 → ⊥) → Zeros (v .job)) (λ _ _. zeros) (λ _ _. zeros) (λ _ _ h. absurd (h refl))
+  where
+    zeros : Zeros (jobOf [] [])
+    zeros = record { n = refl; words = refl; r = refl; registers = refl }
+
+-- "but for 6's place": with every other number, and with 0, the place is 0.
+pub place-read : (l : List ℕ) → (readOf instructionsAt l .refusal ≡ WORD → ⊥) → readOf instructionsAt l .place ≡ 0
+place-read =
+    every-answer (λ (v : ReadJob). (v .refusal ≡ WORD → ⊥) → v .place ≡ 0) (λ _ _. refl) (λ _ h. absurd (h refl)) (λ _ _ _. refl)
+
 none-behind : {A : Type 0} (size : ℕ) (none : A) (l : List A) (i : ℕ) → length l ≤ i → getD (filled size none l) i none ≡ none
 none-behind {A} size none l i h = behind l i (size - length l) h
   where
@@ -42,26 +62,6 @@ pub zero-beyond-r : (l : List ℕ) (i : ℕ) → readOf instructionsAt l .job .r
 zero-beyond-r l i =
     every-answer (λ (v : ReadJob). v .job .r ≤ i → getD (v .job .registers) i zeroRegister ≡ zeroRegister) (λ _. none-behind 32 zeroRegister [] i)
     (λ _. none-behind 32 zeroRegister [] i) (λ _ registers. none-behind 32 zeroRegister registers i) l
-
--- a job of zeros
-pub record Zeros (j : Job) : Type 0 where
-  pub n : j .program .n .0 ≡ 0
-  pub words : j .program .words ≡ replicate 64 0
-  pub r : j .r ≡ 0
-  pub registers : j .registers ≡ replicate 32 zeroRegister
-
--- "Every refusal returns its number and zeros elsewhere": a file that is refused comes back as a job of zeros.
-pub refused-zeros : (l : List ℕ) → (readOf instructionsAt l .refusal ≡ 0 → ⊥) → Zeros (readOf instructionsAt l .job)
-refused-zeros =
-    every-answer (λ (v : ReadJob). (v .refusal ≡ 0 → ⊥) → Zeros (v .job)) (λ _ _. zeros) (λ _ _. zeros) (λ _ _ h. absurd (h refl))
-  where
-    zeros : Zeros (jobOf [] [])
-    zeros = record { n = refl; words = refl; r = refl; registers = refl }
-
--- "but for 6's place": with every other number, and with 0, the place is 0.
-pub place-read : (l : List ℕ) → (readOf instructionsAt l .refusal ≡ WORD → ⊥) → readOf instructionsAt l .place ≡ 0
-place-read =
-    every-answer (λ (v : ReadJob). (v .refusal ≡ WORD → ⊥) → v .place ≡ 0) (λ _ _. refl) (λ _ h. absurd (h refl)) (λ _ _ _. refl)
 
 -- ---- writing
 

@@ -35,6 +35,6 @@ writeOf at words bytes out =
     let answer : Written = sizeOrRefusal at words bytes (length out) in
     (answer, cond (eqb (answer .refusal) 0) (atFront (encode at words bytes) out) out)
 
--- a job that was read, as the writer takes it: the lines of its program, and the bytes of its r registers
+-- the bytes of a job's r registers, as the writer takes them beside the lines of its program
 abbrev pub registerBytesOf : Job → List ℕ
 registerBytesOf j = flatMap bytesOf (take (j .r) (j .registers))

@@ -1,4 +1,4 @@
--- The loop: a turn is one word more.
+-- The loop: a turn is one word more. Carried by `next-word`.
 -- Assumes nothing.
 use Prim.Native.Nat.{ℕ, _+_, _<_, _≤_}
 use mathlib.Core.Path.{_≡_, refl, sym, ap, _∙_}

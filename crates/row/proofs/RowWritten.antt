@@ -1,4 +1,4 @@
--- The answer to a row, written or refused by the test of the room as it came out.
+-- The answer to a row, written or refused by the test of the room as it came out. Carried by `row-fits` and `no-room` of crate `row_rules`.
 -- Assumes nothing.
 use Prim.Native.Nat.{ℕ, _+_, _-_}
 use mathlib.Core.Path.{_≡_}

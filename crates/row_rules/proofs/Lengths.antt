@@ -1,4 +1,4 @@
--- How long each field of a row is.
+-- How long each field of a row is. Carried by computing, and by the cases of a stage and a change.
 -- Assumes nothing.
 use Prim.Native.Nat.{ℕ}
 use mathlib.Core.Path.{_≡_, refl}

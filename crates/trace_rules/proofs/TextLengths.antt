@@ -1,4 +1,5 @@
 -- The texts in parts, and how long they are: the rows of the cycles that are left and END; the word of a line and the digits behind it.
+-- Carried by `ran` of crate `unit_rules`: a run makes the cycles that are left.
 -- Assumes nothing.
 use Rattle.trace_rules.proofs.Shared.{midOf, putMid, atFront, then-front, digit, twoDigits, newline, rowText, rowSize, row-size, Unit}
 use Rattle.trace_rules.proofs.Shared.{well-made-says, last-small, ran, shownOf, rowsOf, endText, refusedText, mostCycles, cyclesLeft, traceText}

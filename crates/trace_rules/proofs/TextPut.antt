@@ -1,4 +1,4 @@
--- What is answered for a text, with room for it and without; and which text it is, by how the start came out.
+-- What is answered for a text, with room for it and without; and which text it is, by how the start came out. Carried by the laws of decisions.
 -- Assumes nothing.
 use Rattle.trace_rules.proofs.Shared.{midOf, putMid, atFront, then-front, rowSize, Unit, well-made-says, well-made-test, sound-read, started-is}
 use Rattle.trace_rules.proofs.Shared.{well-made-started, TextAnswer, rowsOf, endText, refusedText, traceText, jobText, putOf, writeTextOf}

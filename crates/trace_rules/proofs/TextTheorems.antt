@@ -2,12 +2,12 @@
 -- Assumes nothing.
 use Rattle.trace_rules.proofs.Shared.{atFront, twoDigits, last-small, Unit, started-is, TextAnswer, rowsOf, endText, refusedText, textFor}
 use Rattle.trace_rules.proofs.Shared.{jobText, putOf, writeTextOf, largestText, wholeTextOf, bytesToRead}
-use Rattle.unit_rules.proofs.Shared.{ℕ, _-_, _≤_, _≡_, refl, sym, ap, subst, _∙_, Bool, true, false, List, [], _∷_, _++_, arith, ltb-true}
+use Rattle.unit_rules.proofs.Shared.{ℕ, _-_, _≤_, _≡_, refl, sym, ap, _∙_, Bool, true, false, List, [], _∷_, _++_, arith, ltb-true}
 use Rattle.unit_rules.proofs.Shared.{ltb-false, eqb-true, eqb-false, ltb, eqb, length, take, replicate, length-append, length-drop, length-replicate}
 use Rattle.unit_rules.proofs.Shared.{take-at, take-all, firstBad, ReadJob, LARGEST, headerOf, testedOf, bodyOf, lastOf, freshOf, startedBy}
 use Rattle.unit_rules.proofs.Shared.{startOf}
 use Rattle.table.specs.Decided.{decided}
-use Rattle.table.proofs.Decided.{ends, apart, each}
+use Rattle.table.proofs.Decided.{each}
 use Rattle.job_rules.proofs.TooLong.{first-bytes-decide}
 use Rattle.trace_rules.proofs.TextLengths.{trace-is, trace-long, refused-long}
 use Rattle.trace_rules.proofs.TextPut.{text-put, text-refused, text-accepted, started-made}
@@ -83,14 +83,6 @@ whole-length file =
     simp (length-append, length-drop, length-replicate) (omega (arith, text-size file))
 
 module _ (file buffer : List ℕ) where
-  pub size-fits : writeTextOf file buffer .0 .size ≤ length buffer
-  unfolding putOf
-  size-fits =
-      apart _ _ Fits _ _ (λ _. omega arith) (λ h. subst Fits ends (ltb-false (length buffer) (length (jobText file)) h))
-    where
-      Fits : TextAnswer × List ℕ → Type 0
-      Fits a = a .0 .size ≤ length buffer
-
   -- "buffers stay unaltered"
   pub refused-unaltered : (writeTextOf file buffer .0 .refusal ≡ 0 → ⊥) → writeTextOf file buffer .1 ≡ buffer
   unfolding putOf

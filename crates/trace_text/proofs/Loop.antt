@@ -1,4 +1,5 @@
--- A turn of the loop over rows: the row that it shows is that of the unit after the cycles made so far, and stands behind the rows before it.
+-- A turn of the loop over rows: the row that it shows is that of the unit after the cycles made so far, and stands behind the rows before it. Carried
+-- by `deliver` of crate `unit_rules` and `row-fits` of crate `row_rules`.
 -- Assumes nothing.
 use Rattle.trace_rules.proofs.Shared.{atFront, fromStart, then-from, at-end, rowText, rowSize, rowAt, row-fits, Unit, shownBy, shownOf, rowsOf}
 use Rattle.unit_rules.proofs.Shared.{ℕ, _+_, _*_, _%_, _≤_, _≡_, sym, ap, _∙_, List, add-assoc, add-one, length, getD, Register, cyclesOf}

@@ -1,4 +1,4 @@
--- Two instructions are tested for being the same field by field, in the order of the tests.
+-- Two instructions are tested for being the same field by field, in the order of the tests. Carried by rewriting with each test.
 -- Assumes nothing.
 use mathlib.Core.Path.{_≡_}
 use mathlib.Core.Bool.{Bool, false}

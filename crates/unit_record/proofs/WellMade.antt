@@ -21,9 +21,6 @@ module _ (words : List ℕ) (n : Count) (c : ℕ) where
   begun zero h = absurd (h refl)
   begun (suc k) h = let q : suc k - 1 ≡ k = omega arith in rw q
 
-  pub not-begun : c ≡ 0 → IF/ID.Empty ≡ fetchedIn program c
-  not-begun h = rw h
-
   pub past-the-end : (c ≡ 0 → ⊥) → n .0 ≤ c - 1 → IF/ID.Empty ≡ fetchedIn program c
   past-the-end some h = rw (begun c some, le-ltb _ _ h)
 

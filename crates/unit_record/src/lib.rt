@@ -14,7 +14,7 @@ use crate::latches::in_executed;
 use crate::latches::instruction;
 use crate::latches::is_empty;
 use crate::latches::same_held;
-use crate::numbers::less;
+use crate::numbers::cycles_before;
 use crate::numbers::numbers_made;
 use table::Count;
 use unit_rules::IfId;
@@ -47,8 +47,8 @@ fn latches_made(
     ensures { λ r. ⌜ r ≡ latchesMade (record { words = now (words .entry); n = n }) c fetched decoded executed ⌝ }
 {
     if same_held(fetched, fetched_in(words, n, c)) {
-        if same_held(decoded, fetched_in(words, n, less(c, 1))) {
-            return same_held(executed, fetched_in(words, n, less(c, 2)));
+        if same_held(decoded, fetched_in(words, n, cycles_before(c, 1))) {
+            return same_held(executed, fetched_in(words, n, cycles_before(c, 2)));
         }
     }
     false

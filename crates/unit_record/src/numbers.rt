@@ -17,8 +17,8 @@ pub fn lesser(a: u32, b: u32) -> u32
     b
 }
 
-// What is left of a number, or 0 where it is less.
-pub(crate) fn less(c: u32, k: u32) -> u32
+// The cycle so many before cycle c, and 0 where there is none.
+pub(crate) fn cycles_before(c: u32, k: u32) -> u32
     ensures { λ r. ⌜ r ≡ c - k ⌝ }
 {
     if c < k {

@@ -1,10 +1,11 @@
 -- Where count and latches stand, and when a unit is drained: of any record whose count and latches are where its cycle number puts them, whatever values
 -- are latched. Carried by the five places that a cycle number can have with regard to n.
 -- Assumes nothing.
-use Rattle.unit_rules.proofs.Shared.{ℕ, zero, suc, _+_, _-_, _≤_, _<_, min, _≡_, refl, sym, ap, _∙_, Bool, true, false, _&&_, List, add-one}
+use Rattle.unit_rules.proofs.Shared.{ℕ, zero, suc, _+_, _-_, _≤_, _<_, min, _≡_, refl, sym, ap, _∙_, Bool, true, false, _&&_, and-false, List, add-one}
 use Rattle.unit_rules.proofs.Shared.{arith, lt-ltb, le-ltb, le-leb, lt-leb, leb-true, leb-false, ltb-true, ltb-false, eqb-true, eqb-false}
 use Rattle.unit_rules.proofs.Shared.{ne-eqb, eqb, ltb, leb, leb·zero, Register, IfId, IdEx, ExWb, Program, Unit, afterEX, afterID, afterIF}
 use Rattle.unit_rules.proofs.Shared.{countAfter, cycleOf, cyclesOf, fetchedIn, inDecoded, inExecuted, isEmpty, drainedOf, lastOf}
+use Rattle.alu_rules.proofs.Integers.{either}
 use Rattle.unit_rules.proofs.Shared.IF/ID
 use Rattle.unit_rules.proofs.Shared.ID/EX
 
@@ -29,24 +30,17 @@ pub record Placed (u : Unit) : Type 0 where
 
 -- ---- a cycle later
 
-below : (n c : ℕ) {P : Type 0} → (c < n → P) → (n ≤ c → P) → P
-below n c {P} under over = go (ltb c n) refl
-  where
-    go : (t : Bool) → ltb c n ≡ t → P
-    go true q = under (ltb-true c n q)
-    go false q = over (ltb-false c n q)
-
 -- in the cycle after c, with the count where it then is, IF delivers what is fetched in cycle c + 1
 pub fetch-min : (p : Program) (c : ℕ) → afterIF p (min c (p .n .0)) ≡ fetchedIn p (suc c)
 fetch-min p c =
     let n = p .n .0 in
-    below n c
+    either c n
     (λ h. let m : min c n ≡ c = omega arith in rw m)
     (λ h. let m : min c n ≡ n = omega arith in rw (m, le-ltb n n (omega arith), le-ltb c n h))
 
 pub next-min : (n c : ℕ) → countAfter n (min c n) ≡ min (c + 1) n
 next-min n c =
-    below n c
+    either c n
     (λ h. let m : min c n ≡ c = omega arith in rw (m, lt-ltb c n h) (omega arith))
     (λ h. let m : min c n ≡ n = omega arith in rw (m, le-ltb n n (omega arith)) (omega arith))
 
@@ -92,10 +86,6 @@ allEmpty p c = leb (p .n .0) (min c (p .n .0)) && isEmpty (fetchedIn p c) && isE
 drained-held : (u : Unit) → Placed u → drainedOf u ≡ allEmpty (u .program) (u .cycle)
 unfolding drainedOf allEmpty
 drained-held u h = rw (h .counted, h .in-IF/ID, h .in-ID/EX, h .in-EX/WB)
-
-and-false : (b : Bool) → (b && false) ≡ false
-and-false true = refl
-and-false false = refl
 
 -- c is past the last cycle; before n; or n, n + 1 or n + 2
 data Where (n c : ℕ) : Type 0 where

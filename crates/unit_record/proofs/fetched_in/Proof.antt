@@ -1,4 +1,4 @@
--- Carried by the laws of `WellMade`: before the first cycle, past the last line, and at a line.
+-- Carried by the laws of `WellMade`: past the last line, and at a line.
 use borrow.Author.Needs.{needs}
 use Rattle.unit_record.proofs.WellMade.{at-a-line, past-the-end}
 use Rattle.unit_record.proofs.fetched_in as this
