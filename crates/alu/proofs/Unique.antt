@@ -35,6 +35,12 @@ use Rattle.alu.proofs.words.rotate_right.Kinds as rotate-right-kinds
 use Rattle.alu.proofs.words.rotate_right.Reads as rotate-right-reads
 use Rattle.alu.proofs.words.subtract_from.Kinds as subtract-from-kinds
 use Rattle.alu.proofs.words.subtract_from.Reads as subtract-from-reads
+use Rattle.alu.proofs.li_outcome.Kinds as li-outcome-kinds
+use Rattle.alu.proofs.li_outcome.Reads as li-outcome-reads
+use Rattle.alu.proofs.multiply_outcome.Kinds as multiply-outcome-kinds
+use Rattle.alu.proofs.multiply_outcome.Reads as multiply-outcome-reads
+use Rattle.alu.proofs.short_outcome.Kinds as short-outcome-kinds
+use Rattle.alu.proofs.short_outcome.Reads as short-outcome-reads
 use Rattle.alu.proofs.result.Kinds as result-kinds
 use Rattle.alu.proofs.result.Reads as result-reads
 
@@ -88,6 +94,15 @@ rotate-right-unique = by-value (λ κs a. no-requires) (λ κs a v w. refl)
 
 pub subtract-from-unique : Determined 0 subtract-from-kinds.ps subtract-from-kinds.r subtract-from-reads.requires subtract-from-reads.Post
 subtract-from-unique = by-value (λ κs a. no-requires) (λ κs a v w. refl)
+
+pub li-outcome-unique : Determined 0 li-outcome-kinds.ps li-outcome-kinds.r li-outcome-reads.requires li-outcome-reads.Post
+li-outcome-unique = by-value (λ κs a. no-requires) (λ κs a v w. refl)
+
+pub multiply-outcome-unique : Determined 0 multiply-outcome-kinds.ps multiply-outcome-kinds.r multiply-outcome-reads.requires multiply-outcome-reads.Post
+multiply-outcome-unique = by-value (λ κs a. no-requires) (λ κs a v w. refl)
+
+pub short-outcome-unique : Determined 0 short-outcome-kinds.ps short-outcome-kinds.r short-outcome-reads.requires short-outcome-reads.Post
+short-outcome-unique = by-value (λ κs a. no-requires) (λ κs a v w. refl)
 
 pub result-unique : Determined 0 result-kinds.ps result-kinds.r result-reads.requires result-reads.Post
 result-unique = by-value (λ κs a. no-requires) (λ κs a v w. refl)

@@ -2,10 +2,11 @@
 
 ghost use mathlib.Core.Path.{_≡_};
 ghost use lib.ListN.{getD};
-ghost use Rattle.register.specs.Layout.{zeroRegister};
-ghost use Rattle.table.specs.Fields.{codeOf};
+ghost use Rattle.register.specs.Layout.{zeroRegister, withHalfword};
+ghost use Rattle.table.specs.Fields.{isLong, isSubtract, isHigh, indexOf, immediateOf, codeOf};
 ghost use Rattle.table.specs.Operation.{shortRows};
 ghost use Rattle.table.specs.Operation.Operation.{nop};
+ghost use Rattle.alu_rules.specs.Across.{multiplied};
 ghost use Rattle.alu_rules.specs.Result.{result, outcomeOf};
 
 pub mod halfwords;
@@ -24,6 +25,24 @@ use table::fields::is_li;
 use table::fields::is_long;
 use table::fields::is_multiply;
 use table::fields::is_subtract;
+
+// li: its one operand is its old rd.
+pub fn li_outcome(w: u32, rd: Register) -> Outcome
+    ensures { λ r. ⌜ r ≡ record { value = withHalfword (indexOf w) (immediateOf w) rd } ⌝ }
+{
+    Outcome {
+        value: rd.with_halfword(index(w), immediate(w)),
+    }
+}
+
+// A word of the multiply family.
+pub fn multiply_outcome(w: u32, rs1: Register, rs2: Register, rs3: Register) -> Outcome
+    ensures { λ r. ⌜ r ≡ record { value = multiplied (isLong w) (isSubtract w) (isHigh w) rs1 rs2 rs3 } ⌝ }
+{
+    Outcome {
+        value: multiply(is_long(w), is_subtract(w), is_high(w), rs1, rs2, rs3),
+    }
+}
 
 // The sixteen short codes, none of which has a third operand.
 fn short_result(w: u32, rs1: Register, rs2: Register) -> Register
@@ -50,21 +69,24 @@ fn short_result(w: u32, rs1: Register, rs2: Register) -> Register
     }
 }
 
+// A word of a short code.
+pub fn short_outcome(w: u32, rs1: Register, rs2: Register) -> Outcome
+    ensures { λ r. ⌜ r ≡ record { value = result (getD shortRows (codeOf w) nop) w rs1 rs2 zeroRegister } ⌝ }
+{
+    Outcome {
+        value: short_result(w, rs1, rs2),
+    }
+}
+
 // What a word gives. An operand that the table says is not read has no effect.
 pub fn result(w: u32, rs1: Register, rs2: Register, rs3: Register) -> Outcome
     ensures { λ r. ⌜ r ≡ outcomeOf w rs1 rs2 rs3 ⌝ }
 {
     if is_li(w) {
-        return Outcome {
-            value: rs1.with_halfword(index(w), immediate(w)),
-        };
+        return li_outcome(w, rs1);
     }
     if is_multiply(w) {
-        return Outcome {
-            value: multiply(is_long(w), is_subtract(w), is_high(w), rs1, rs2, rs3),
-        };
+        return multiply_outcome(w, rs1, rs2, rs3);
     }
-    Outcome {
-        value: short_result(w, rs1, rs2),
-    }
+    short_outcome(w, rs1, rs2)
 }

@@ -1,7 +1,7 @@
 -- What the rows of the table give. Carried by computation: each law is one line for each row, or one test over all sixteen short codes.
 -- Assumes nothing.
 use Prim.Native.Nat.{ℕ, zero, suc, _<_, _≤_}
-use mathlib.Core.Path.{_≡_, refl, sym, ap, ap₂, _∙_}
+use mathlib.Core.Path.{_≡_, refl, sym, ap, _∙_}
 use mathlib.Core.Bool.{Bool, true, false, cond}
 use native.Mathlib.Omega.{arith}
 use lib.ListN.{getD, List·getD-map}
@@ -90,25 +90,26 @@ short-row w k a b e f g = g ∙ ap (λ (n : ℕ). result (getD shortRows n nop) 
 
 module _ (w : ℕ) {l : Bool} (is-li : l ≡ isLi w) where
   module _ (yes : l ≡ true) where
-    pub li-result : (a b c : Register) {i v : ℕ} {r : Register} → i ≡ indexOf w → v ≡ immediateOf w → r ≡ withHalfword i v a → outcome r ≡ outcomeOf w a b c
+    pub li-result : (a b c : Register) {r : Outcome} → r ≡ outcome (withHalfword (indexOf w) (immediateOf w) a) → r ≡ outcomeOf w a b c
     unfolding outcomeOf result
-    li-result a b c e f g =
-        ap outcome (g ∙ ap₂ (λ (i v : ℕ). withHalfword i v a) e f ∙ sym (ap (λ (o : Operation). result o w a b c) (li-word w is-li yes)))
+    li-result a b c e = e ∙ sym (ap (λ (o : Operation). outcome (result o w a b c)) (li-word w is-li yes))
 
   module _ {m : Bool} (other : l ≡ false) (is-multiply : m ≡ isMultiply w) where
     module _ (yes : m ≡ true) where
-      pub multiply-result : (a b c : Register) {x y z : Bool} {r : Register} → x ≡ isLong w → y ≡ isSubtract w → z ≡ isHigh w
-          → r ≡ multiplied x y z a b c → outcome r ≡ outcomeOf w a b c
+      pub multiply-result : (a b c : Register) {r : Outcome} → r ≡ outcome (multiplied (isLong w) (isSubtract w) (isHigh w) a b c) → r ≡ outcomeOf w a b c
       unfolding outcomeOf
-      multiply-result a b c e f g h =
-          ap outcome (h ∙ (λ i. multiplied (e i) (f i) (g i) a b c) ∙ sym (row-multiplies w a b c (isLong w) (isSubtract w) (isHigh w))
-          ∙ sym (ap (λ (o : Operation). result o w a b c) (multiply-word w is-li other is-multiply yes)))
+      multiply-result a b c e =
+          e
+          ∙ ap outcome (sym (ap (λ (o : Operation). result o w a b c) (multiply-word w is-li other is-multiply yes)
+          ∙ row-multiplies w a b c (isLong w) (isSubtract w) (isHigh w)))
 
     module _ (no : m ≡ false) where
-      pub short-result : (a b c : Register) {r : Register} → r ≡ result (getD shortRows (codeOf w) nop) w a b zeroRegister → outcome r ≡ outcomeOf w a b c
+      pub short-result : (a b c : Register) {r : Outcome} → r ≡ outcome (result (getD shortRows (codeOf w) nop) w a b zeroRegister) → r ≡ outcomeOf w a b c
       unfolding outcomeOf
       short-result a b c e =
-          ap outcome (e ∙ short-third (codeOf w) w a b zeroRegister c ∙ sym (ap (λ (o : Operation). result o w a b c) (short-word w is-li other is-multiply no)))
+          e
+          ∙ ap outcome (short-third (codeOf w) w a b zeroRegister c
+          ∙ sym (ap (λ (o : Operation). result o w a b c) (short-word w is-li other is-multiply no)))
 
 -- a code below 16 that is none of 0 to 14 is 15. `Others c k`: c is none of 0 to k - 1
 abbrev pub Others : ℕ → ℕ → Type 0

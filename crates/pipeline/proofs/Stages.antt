@@ -2,7 +2,7 @@
 -- forwarded operand works as one that is read after the write. Nothing here knows a word, a register or a line number.
 -- Assumes nothing.
 use Prim.Native.Nat.{ℕ, zero, suc}
-use mathlib.Core.Path.{_≡_, refl, ap}
+use mathlib.Core.Path.{_≡_, refl, ap, _∙_}
 
 -- a latch: empty, or holding something
 pub data Slot (A : Type 0) : Type 0 where
@@ -78,44 +78,39 @@ module _ (M : Stages) where
   executedAll line zero f = f
   executedAll line (suc k) f = executed (line k) (executedAll line k f)
 
-  -- the stream three places late
-  abbrev pub late : (ℕ → Slot (M .Instr)) → ℕ → Slot (M .Instr)
-  late line zero = empty
-  late line (suc zero) = empty
-  late line (suc (suc zero)) = empty
-  late line (suc (suc (suc k))) = line k
+  -- t cycles in which IF delivers a stream
+  abbrev pub cycledAll : (ℕ → Slot (M .Instr)) → ℕ → Pipe M → Pipe M
+  cycledAll line zero s = s
+  cycledAll line (suc t) s = cycled (line t) (cycledAll line t s)
 
-  -- c of the stream three late are c - 3 of the stream
-  pub late-by-three : (line : ℕ → Slot (M .Instr)) (f : M .File) (k : ℕ) → executedAll (late line) (suc (suc (suc k))) f ≡ executedAll line k f
-  late-by-three line f zero = refl
-  late-by-three line f (suc k) = ap (executed (line k)) (late-by-three line f k)
+  -- a stream behind what EX/WB, ID/EX and IF/ID hold: what reaches WB, one a cycle
+  abbrev pub behind : Slot (M .Instr) → Slot (M .Instr) → Slot (M .Instr) → (ℕ → Slot (M .Instr)) → ℕ → Slot (M .Instr)
+  behind x y z line zero = x
+  behind x y z line (suc zero) = y
+  behind x y z line (suc (suc zero)) = z
+  behind x y z line (suc (suc (suc k))) = line k
 
   -- ---- both
 
-  abbrev done : Slot (M .Instr) → M .File → Slot (Latched (M .Instr) (M .Out))
+  abbrev pub done : Slot (M .Instr) → M .File → Slot (Latched (M .Instr) (M .Out))
   done empty f = empty
   done (holds i) f = holds (record { instr = i; rest = outcome i f })
 
   -- the pipeline with x in EX/WB, y in ID/EX and z in IF/ID: what it holds of each is told by the file
-  abbrev holding : M .File → Slot (M .Instr) → Slot (M .Instr) → Slot (M .Instr) → Pipe M
+  abbrev pub holding : M .File → Slot (M .Instr) → Slot (M .Instr) → Slot (M .Instr) → Pipe M
   holding f x y z = record { file = f; ifid = z; idex = throughID y f; exwb = done x f }
-
-  -- the pipeline after c cycles in which IF delivered the stream, begun on the file f
-  abbrev pub pipeAt : (ℕ → Slot (M .Instr)) → M .File → ℕ → Pipe M
-  pipeAt line f c = holding (executedAll (late line) c f) (late line c) (late line (suc c)) (late line (suc (suc c)))
 
   -- a latch with a good instruction, or none
   abbrev pub GoodIn : (M .Instr → Type 0) → Slot (M .Instr) → Type 0
   GoodIn Good empty = Unit {0}
   GoodIn Good (holds i) = Good i
 
-  module _ (Good : M .Instr → Type 0) (Ok : M .File → Type 0) (law : Lawful M Good Ok) where
-    good-late : (line : ℕ → Slot (M .Instr)) → ((k : ℕ) → GoodIn Good (line k)) → (c : ℕ) → GoodIn Good (late line c)
-    good-late line good zero = tt
-    good-late line good (suc zero) = tt
-    good-late line good (suc (suc zero)) = tt
-    good-late line good (suc (suc (suc k))) = good k
+  -- the instruction of a latch, without what is latched with it
+  abbrev pub instrIn : {B : Type 0} → Slot (Latched (M .Instr) B) → Slot (M .Instr)
+  instrIn empty = empty
+  instrIn (holds x) = holds (x .instr)
 
+  module _ (Good : M .Instr → Type 0) (Ok : M .File → Type 0) (law : Lawful M Good Ok) where
     ok-executed : (x : Slot (M .Instr)) (f : M .File) → Ok f → Ok (executed x f)
     ok-executed empty f k = k
     ok-executed (holds i) f k = law .keeps i (outcome i f) f k
@@ -124,15 +119,45 @@ module _ (M : Stages) where
     ok-all line f k zero = k
     ok-all line f k (suc c) = ok-executed (line c) (executedAll line c f) (ok-all line f k c)
 
+    ok-written : (x : Slot (Latched (M .Instr) (M .Out))) (f : M .File) → Ok f → Ok (throughWB x f)
+    ok-written empty f k = k
+    ok-written (holds x) f k = law .keeps (x .instr) (x .rest) f k
+
+    -- ---- from a pipeline that is told by its file
+
     cycled-holding : (f : M .File) → Ok f → (x y z new : Slot (M .Instr)) → GoodIn Good x → cycled new (holding f x y z) ≡ holding (executed x f) y z new
     cycled-holding f k empty empty z new g = refl
     cycled-holding f k empty (holds i) z new g = refl
     cycled-holding f k (holds j) empty z new g = refl
     cycled-holding f k (holds j) (holds i) z new g = rw (law .forwards j i (outcome j f) f g k)
 
-    -- a cycle more
-    pub next-cycle : (line : ℕ → Slot (M .Instr)) → ((k : ℕ) → GoodIn Good (line k)) → (f : M .File) → Ok f
-        → (c : ℕ) → cycled (line c) (pipeAt line f c) ≡ pipeAt line f (suc c)
-    next-cycle line good f k c =
-        cycled-holding (executedAll (late line) c f) (ok-all (late line) f k c) (late line c) (late line (suc c)) (late line (suc (suc c))) (line c)
-        (good-late line good c)
+    -- it stays so: after t cycles its file has what reached WB, executed one after another
+    pub held-on : (line : ℕ → Slot (M .Instr)) (f : M .File) → Ok f → (x y z : Slot (M .Instr)) → ((k : ℕ) → GoodIn Good (behind x y z line k)) → (t : ℕ)
+        → (let next = behind x y z line in
+        cycledAll line t (holding f x y z) ≡ holding (executedAll next t f) (next t) (next (suc t)) (next (suc (suc t))))
+    held-on line f k x y z good zero = refl
+    held-on line f k x y z good (suc t) =
+        let next = behind x y z line in
+        ap (cycled (line t)) (held-on line f k x y z good t)
+        ∙ cycled-holding (executedAll next t f) (ok-all next f k t) (next t) (next (suc t)) (next (suc (suc t))) (line t) (good t)
+
+    -- ---- from any pipeline whatsoever
+
+    -- what EX makes of operands that were read, with what WB writes, is told by the file after that write
+    worked-told : (x : Slot (Latched (M .Instr) (M .Out))) (z : Slot (M .Instr)) (f : M .File) → Ok f → GoodIn Good (instrIn x)
+        → throughEX x (throughID z f) ≡ done z (throughWB x f)
+    worked-told empty empty f k g = refl
+    worked-told empty (holds i) f k g = refl
+    worked-told (holds x) empty f k g = refl
+    worked-told (holds x) (holds i) f k g = rw (law .forwards (x .instr) i (x .rest) f g k)
+
+    good-worked : (x : Slot (Latched (M .Instr) (M .Out))) (y : Slot (Latched (M .Instr) (M .Ops))) → GoodIn Good (instrIn y) → GoodIn Good (instrIn (throughEX x y))
+    good-worked x empty g = g
+    good-worked x (holds y) g = g
+
+    -- after two cycles every value that is latched was read, or worked, since: all that the pipeline holds is told by its file
+    pub settles : (s : Pipe M) → Ok (s .file) → GoodIn Good (instrIn (s .idex)) → (a b : Slot (M .Instr))
+        → cycled b (cycled a s) ≡ holding (cycled b (cycled a s) .file) (s .ifid) a b
+    settles s k g a b =
+        let t = cycled a s in
+        rw (worked-told (t .exwb) (s .ifid) (t .file) (ok-written (s .exwb) (s .file) k) (good-worked (s .exwb) (s .idex) g))

@@ -1,66 +1,79 @@
--- The loop: a turn is one word more. Carried by `next-word`.
+-- The loop over lines: what the code leaves of a word of each kind is what the plain machine leaves. Carried by `one-more`.
 -- Assumes nothing.
 use Prim.Native.Nat.{ℕ, _+_, _<_, _≤_}
 use mathlib.Core.Path.{_≡_, refl, sym, ap, _∙_}
-use mathlib.Core.Bool.{Bool, true, false, cond}
-use mathlib.Core.List.{List, []}
+use mathlib.Core.Bool.{Bool, true, false, not}
+use mathlib.Core.List.{List}
 use native.Mathlib.Numerals.{add-one}
-use lib.ListN.{getD, set, length, drop, drop-of-length-le}
-use lib.Seq.{drop-cons, set-getD}
+use borrow.Author.Tests.{not-true, not-false}
+use lib.ListN.{getD, set, take, length}
+use lib.Seq.{take-all}
 use Rattle.register.specs.declared.Register.{Register}
-use Rattle.register.specs.Layout.{rowOf, ofRow}
+use Rattle.register.specs.Layout.{zeroRegister, withHalfword}
 use Rattle.table.specs.declared.Pointer.{Pointer}
-use Rattle.table.specs.declared.Target.the-variants.{None, To}
-use Rattle.table.specs.Fields.{firstOf, rs2Of, rs3Of, rdOf}
-use Rattle.table.specs.Operation.{isNop, targetOf}
-use Rattle.alu_rules.specs.Result.{outcomeOf}
-use Rattle.plain_rules.specs.Machine.{stored, outcomeOn, stepOn, plainOn, plainRows}
-use Rattle.plain.specs.Chosen.{chosen}
+use Rattle.table.specs.Fields.{isLi, isMultiply, isLong, isSubtract, isHigh, indexOf, immediateOf, codeOf, firstOf, rs1Of, rs2Of, rs3Of, rdOf}
+use Rattle.table.specs.Operation.{shortRows, isNop, targetOf}
+use Rattle.table.specs.Operation.Operation.{nop}
+use Rattle.alu_rules.specs.declared.Outcome.{Outcome}
+use Rattle.alu_rules.specs.Across.{multiplied}
+use Rattle.alu_rules.specs.Result.{result, outcomeOf}
+use Rattle.alu_rules.proofs.Rows.{li-result, multiply-result, short-result}
+use Rattle.plain_rules.specs.Machine.{outcomeOn, stepOn, plainOn, step, plain}
+use Rattle.plain_rules.proofs.Theorems.{one-more}
 
--- the program from i on
-module _ {A : Type 0} (read : A → Register) (make : Register → A) (none : A) where
-  next-word : (p : List ℕ) (i : ℕ) (f : List A) → i < length p
-      → plainOn read make none (drop i p) f ≡ plainOn read make none (drop (i + 1) p) (stepOn read make none (getD p i 0) f)
-  unfolding plainOn
-  next-word p i f h = rw (drop-cons p i 0 h, add-one)
+-- a word that is no NOP stores what it gives, and a NOP leaves all as it is
+stores : (w : ℕ) (f : List Register) {o : Outcome} → isNop w ≡ false → o ≡ outcomeOn (λ r. r) (λ r. r) zeroRegister w f → set f (rdOf w .0) (o .value) ≡ step w f
+unfolding stepOn targetOf
+stores w f writes e = rw (writes, e)
 
-  no-word : (p : List ℕ) (i : ℕ) (f : List A) → length p ≤ i → plainOn read make none (drop i p) f ≡ f
-  unfolding plainOn
-  no-word p i f h = rw (drop-of-length-le p h)
+skips : (w : ℕ) (f : List Register) → isNop w ≡ true → f ≡ step w f
+unfolding stepOn targetOf
+skips w f nothing = rw nothing
 
--- storing the entry that a word leaves at its rd is what the word stores
-stored-at-rd : {A : Type 0} (w : ℕ) (v none : A) (f : List A)
-    → set f (rdOf w .0) (chosen (targetOf w) v (getD f (rdOf w .0) none)) ≡ stored (targetOf w) v f
-unfolding targetOf
-stored-at-rd {A} w v none f = go (isNop w)
-  where
-    go : (t : Bool) → set f (rdOf w .0) (chosen (cond t None (To (rdOf w))) v (getD f (rdOf w .0) none)) ≡ stored (cond t None (To (rdOf w))) v f
-    go true = set-getD f (rdOf w .0) none
-    go false = refl
+-- line i of p, on the registers g that the lines before it leave. The code reads the pointers d, a, b and c off its word w; l, m and t are what its tests
+-- answer, and o is the outcome
+module _ (p : List ℕ) (i : ℕ) (f : List Register) {g : List Register} (here : i < length p) (so-far : g ≡ plain (take i p) f) where
+  abbrev w : ℕ
+  w = getD p i 0
 
--- the row that w leaves at d, from the rows at a, b and c
-abbrev left-by : ℕ → List (List ℕ) → ℕ → ℕ → ℕ → ℕ → List ℕ
-left-by w f a b c d = chosen (targetOf w) (rowOf (outcomeOf w (ofRow (getD f a [])) (ofRow (getD f b [])) (ofRow (getD f c [])) .value)) (getD f d [])
+  after : {h : List Register} → h ≡ step w g → h ≡ plain (take (i + 1) p) f
+  after e = e ∙ ap (step w) so-far ∙ sym (one-more p i f here) ∙ ap (λ (k : ℕ). plain (take k p) f) (sym (add-one i))
 
--- before the first turn nothing is done, and after the last one all of it
-pub all-words : (p : List ℕ) (i : ℕ) {f g : List (List ℕ)} → length p ≤ i → plainRows (drop i p) f ≡ g → f ≡ g
-all-words p i h e = sym (no-word ofRow rowOf [] p i _ h) ∙ e
+  pub nop-line : {t : Bool} → t ≡ isNop w → not t ≡ false → g ≡ plain (take (i + 1) p) f
+  nop-line {t} is-nop nothing = after (skips w g (sym is-nop ∙ not-false t nothing))
 
--- one turn: the places x, y, z, t that the fields of word i point to, read as a, b, c, d, and the row that is stored at d
-pub turn : (p : List ℕ) (i : ℕ) (f : List (List ℕ)) {x y z t : Pointer} {a b c d : ℕ} {row : List ℕ} {g : List (List ℕ)} → i < length p
-    → x ≡ firstOf (getD p i 0) → a ≡ x .0 → y ≡ rs2Of (getD p i 0) → b ≡ y .0
-    → z ≡ rs3Of (getD p i 0) → c ≡ z .0 → t ≡ rdOf (getD p i 0) → d ≡ t .0
-    → row ≡ left-by (getD p i 0) f a b c d
-    → plainRows (drop i p) f ≡ g → plainRows (drop (i + 1) p) (set f d row) ≡ g
-unfolding stepOn
-turn p i f {d = d} h e1 f1 e2 f2 e3 f3 e4 f4 left before =
-    let w = getD p i 0 in
-    let ea = f1 ∙ ap (λ (q : Pointer). q .0) e1 in
-    let eb = f2 ∙ ap (λ (q : Pointer). q .0) e2 in
-    let ec = f3 ∙ ap (λ (q : Pointer). q .0) e3 in
-    let ed = f4 ∙ ap (λ (q : Pointer). q .0) e4 in
-    ap (λ (l : List (List ℕ)). plainRows (drop (i + 1) p) l)
-    (ap (set f d) left
-    ∙ (λ j. set f (ed j) (left-by w f (ea j) (eb j) (ec j) (ed j)))
-    ∙ stored-at-rd w (rowOf (outcomeOn ofRow rowOf [] w f .value)) [] f)
-    ∙ sym (next-word ofRow rowOf [] p i f h) ∙ before
+  module _ {d : Pointer} (at : d ≡ rdOf w) {l : Bool} (is-li : l ≡ isLi w) where
+    pub li-line : l ≡ true → {o : Outcome} → o ≡ record { value = withHalfword (indexOf w) (immediateOf w) (getD g (d .0) zeroRegister) }
+        → set g (d .0) (o .value) ≡ plain (take (i + 1) p) f
+    unfolding firstOf
+    li-line li e =
+        let own : firstOf w ≡ rdOf w = rw (← is-li, li) in
+        after (rw at (stores w g (rw (← is-li, li)) (li-result w is-li li _ _ _ (e ∙ rw (at, own)))))
+
+    module _ (other : l ≡ false) {a b : Pointer} (first : a ≡ rs1Of w) (second : b ≡ rs2Of w) {m : Bool} (is-multiply : m ≡ isMultiply w) where
+      -- the operands that the code reads are the ones that the word names
+      named : (r : Register) → outcomeOf w (getD g (a .0) zeroRegister) (getD g (b .0) zeroRegister) r
+          ≡ outcomeOf w (getD g (firstOf w .0) zeroRegister) (getD g (rs2Of w .0) zeroRegister) r
+      unfolding firstOf
+      named r = rw (← is-li, other, first, second)
+
+      pub multiply-line : m ≡ true → {c : Pointer} → c ≡ rs3Of w → {o : Outcome}
+          → o ≡ record { value = multiplied (isLong w) (isSubtract w) (isHigh w) (getD g (a .0) zeroRegister) (getD g (b .0) zeroRegister) (getD g (c .0) zeroRegister) }
+          → set g (d .0) (o .value) ≡ plain (take (i + 1) p) f
+      multiply-line multiplies third e =
+          after (rw at (stores w g (rw (← is-li, other, ← is-multiply, multiplies))
+          (multiply-result w is-li other is-multiply multiplies _ _ _ e ∙ named _ ∙ rw third)))
+
+      pub short-line : m ≡ false → {o : Outcome}
+          → o ≡ record { value = result (getD shortRows (codeOf w) nop) w (getD g (a .0) zeroRegister) (getD g (b .0) zeroRegister) zeroRegister }
+          → {t : Bool} → t ≡ isNop w → not t ≡ true → set g (d .0) (o .value) ≡ plain (take (i + 1) p) f
+      short-line short e {t} is-nop writes =
+          after (rw at (stores w g (sym is-nop ∙ not-true t writes) (short-result w is-li other is-multiply short _ _ _ e ∙ named _)))
+
+-- before the first line nothing is done, and after the last one all of it
+pub no-line : (p : List ℕ) (f : List Register) → f ≡ plain (take 0 p) f
+unfolding plainOn
+no-line p f = refl
+
+pub all-lines : (p : List ℕ) (i : ℕ) (f : List Register) {g : List Register} → length p ≤ i → g ≡ plain (take i p) f → g ≡ plain p f
+all-lines p i f h e = e ∙ ap (λ (q : List ℕ). plain q f) (take-all i p h)

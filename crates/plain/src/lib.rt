@@ -1,20 +1,17 @@
 // The plain machine: one instruction after another on a file of 32 rows of four words, by value.
 
 ghost use mathlib.Core.Path.{_≡_};
-ghost use Rattle.register.specs.Layout.{rowOf, ofRow};
-ghost use Rattle.table.specs.Operation.{targetOf};
-ghost use Rattle.alu_rules.specs.Result.{outcomeOf};
 ghost use Rattle.plain_rules.specs.Machine.{plainRows};
 ghost use Rattle.plain_rules.specs.Answer.{answerOf, executeOf, executeAllOf};
-ghost use Rattle.plain.specs.Chosen.{chosen};
-use alu::result;
+
+pub mod lines;
+mod rows;
+
+use crate::lines::execute_lines;
+use crate::rows::registers_of;
+use crate::rows::rows_of;
 pub use plain_rules::Executed;
-use register::Register;
-use table::Pointer;
-use table::Target;
-use table::fields;
 use table::refusal;
-use table::writes;
 
 // The literal of a struct with a field that is an array of arrays, and the read of that field: the two forms that are proved by hand.
 fn answer(refusal: u32, place: usize, file: [[u32; 4]; 32]) -> Executed
@@ -34,51 +31,13 @@ pub fn file_in(e: Executed) -> [[u32; 4]; 32]
     e.file
 }
 
-fn place_of(p: Pointer) -> usize
-    ensures { λ r. ⌜ r ≡ p .0 ⌝ }
-{
-    p.0 as usize
-}
-
-fn new_row(word: u32, a: [u32; 4], b: [u32; 4], c: [u32; 4]) -> [u32; 4]
-    ensures { λ r. ⌜ r ≡ rowOf (outcomeOf word (ofRow a) (ofRow b) (ofRow c) .value) ⌝ }
-{
-    let rs1 = Register::from_row(a);
-    let rs2 = Register::from_row(b);
-    let rs3 = Register::from_row(c);
-    let given = result(word, rs1, rs2, rs3);
-    let value = given.value;
-    value.to_row()
-}
-
-// A word that writes nothing leaves the row of its rd as it was.
-fn row_after(word: u32, a: [u32; 4], b: [u32; 4], c: [u32; 4], old: [u32; 4]) -> [u32; 4]
-    ensures { λ r. ⌜ r ≡ chosen (targetOf word) (rowOf (outcomeOf word (ofRow a) (ofRow b) (ofRow c) .value)) old ⌝ }
-{
-    let target = writes::target_of(word);
-    match target {
-        Target::None => old,
-        Target::To(_) => new_row(word, a, b, c),
-    }
-}
-
-// The file is a local of the loop: no instruction copies it.
+// The words are executed on registers: a row is read and written once a program, and not once a word.
 fn run(program: &[u32], file: [[u32; 4]; 32]) -> [[u32; 4]; 32]
     ensures { λ r. ⌜ r ≡ plainRows (now (program .entry)) file ⌝ }
 {
-    let mut rows = file;
-    let mut i = 0;
-    while i < program.len() {
-        let word = program[i];
-        let a = place_of(fields::first(word));
-        let b = place_of(fields::rs2(word));
-        let c = place_of(fields::rs3(word));
-        let d = place_of(fields::rd(word));
-        let row = row_after(word, rows[a], rows[b], rows[c], rows[d]);
-        rows[d] = row;
-        i += 1;
-    }
-    rows
+    let registers = registers_of(file);
+    let after = execute_lines(program, registers);
+    rows_of(after)
 }
 
 // Executes a program on a file, one word after another. Refused with 2 over 64 words, then with 6 at the first bad word, and then the file is as it was given.

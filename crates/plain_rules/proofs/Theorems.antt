@@ -1,9 +1,10 @@
 -- For the reader of specs/: a program is its words one after another, and the machine on rows and the machine on registers agree.
 -- Assumes nothing.
-use Prim.Native.Nat.{ℕ, zero, suc}
+use Prim.Native.Nat.{ℕ, zero, suc, _<_}
 use mathlib.Core.Path.{_≡_, refl, sym, ap, _∙_}
 use mathlib.Core.List.{List, [], _∷_, _++_, map}
-use lib.ListN.{getD, set}
+use lib.ListN.{getD, set, take, length}
+use lib.Seq.{take-suc}
 use Rattle.register.specs.declared.Register.{Register}
 use Rattle.register.specs.Layout.{zeroRegister, rowOf, ofRow}
 use Rattle.table.specs.declared.Target.{Target}
@@ -11,7 +12,7 @@ use Rattle.table.specs.declared.Target.the-variants.{None, To}
 use Rattle.table.specs.Fields.{firstOf, rs2Of, rs3Of}
 use Rattle.table.specs.Operation.{targetOf}
 use Rattle.alu_rules.specs.Result.{outcomeOf}
-use Rattle.plain_rules.specs.Machine.{stored, outcomeOn, stepOn, plainOn, plain, plainRows}
+use Rattle.plain_rules.specs.Machine.{stored, outcomeOn, stepOn, plainOn, step, plain, plainRows}
 
 -- ---- one word after another
 
@@ -26,6 +27,13 @@ module _ {A : Type 0} (read : A → Register) (make : Register → A) (none : A)
   pub lone-word : (w : ℕ) (f : List A) → plainOn read make none (w ∷ []) f ≡ stepOn read make none w f
   unfolding plainOn
   lone-word w f = refl
+
+-- a program's first words and one word more
+pub one-more : (l : List ℕ) (k : ℕ) (f : List Register) → k < length l → plain (take (suc k) l) f ≡ step (getD l k 0) (plain (take k l) f)
+one-more l k f h =
+    ap (λ (q : List ℕ). plain q f) (take-suc l k 0 h)
+    ∙ one-after-another (λ r. r) (λ r. r) zeroRegister (take k l) (getD l k 0 ∷ []) f
+    ∙ lone-word (λ r. r) (λ r. r) zeroRegister (getD l k 0) (plain (take k l) f)
 
 -- ---- the same machine on another kind of entry
 

@@ -45,12 +45,12 @@ module _ (k i w rest : ℕ) (some : 0 < i) (within : i ≤ k) (left : rest ≡ w
   pub less-left : rest / 16 ≡ w / 16 ^ (k - (i - 1))
   less-left = rw (left, one-more, pow-suc 16 (k - i)) (div-div-eq-div-mul w (16 ^ (k - i)) 16)
 
-  pub digit-more : (old out : List ℕ) → k ≤ length old → out ≡ fromStart i (hexDigits (k - i) w) old
-      → set out (i - 1) (digit (rest % 16)) ≡ fromStart (i - 1) (hexDigits (k - (i - 1)) w) old
-  digit-more old out room e =
+  pub digit-more : (old out : List ℕ) {b : ℕ} → b ≡ digit (rest % 16) → k ≤ length old → out ≡ fromStart i (hexDigits (k - i) w) old
+      → set out (i - 1) b ≡ fromStart (i - 1) (hexDigits (k - (i - 1)) w) old
+  digit-more old out said room e =
       let next : suc (i - 1) ≡ i = omega arith in
       let stands : out ≡ fromStart (suc (i - 1)) (hexDigits (k - i) w) old = rw next e in
-      rw (one-more, ← left) (stored-before (i - 1) (digit (rest % 16)) (hexDigits (k - i) w) old out (omega arith) stands)
+      rw (said, one-more, ← left) (stored-before (i - 1) (digit (rest % 16)) (hexDigits (k - i) w) old out (omega arith) stands)
 
 pub all-digits : (k i w : ℕ) (old out : List ℕ) → i ≤ 0 → out ≡ fromStart i (hexDigits (k - i) w) old → out ≡ atFront (hexDigits k w) old
 all-digits k i w old out h e =

@@ -1,42 +1,35 @@
 // Digits and hyphens at the front of a buffer.
 
-ghost use Prim.Native.Nat.{_/_, _%_, _≤_};
+ghost use Prim.Native.Nat.{_/_, _%_, _≤_, _<_};
 ghost use mathlib.Core.Path.{_≡_};
 ghost use lib.ListN.{length};
 ghost use Rattle.buffer.specs.Front.{atFront};
 ghost use Rattle.row_rules.specs.Text.{digit, twoDigits, hexDigits, hyphens};
 
-const DIGITS: [u8; 16] = [
-    b'0',
-    b'1',
-    b'2',
-    b'3',
-    b'4',
-    b'5',
-    b'6',
-    b'7',
-    b'8',
-    b'9',
-    b'A',
-    b'B',
-    b'C',
-    b'D',
-    b'E',
-    b'F',
-];
+// The code of a digit, computed: a constant table would be built anew at each use.
+fn digit_of(d: u32) -> u8
+    requires { ⌜ d < 16 ⌝ }
+    ensures { λ r. ⌜ r ≡ digit d ⌝ }
+{
+    if d < 10 {
+        (d + 48) as u8
+    } else {
+        (d + 55) as u8
+    }
+}
 
 // The last decimal digit but one of a number.
 pub fn tens(n: u32) -> u8
     ensures { λ r. ⌜ r ≡ digit (n / 10 % 10) ⌝ }
 {
-    DIGITS[(n / 10 % 10) as usize]
+    digit_of(n / 10 % 10)
 }
 
 // The last decimal digit of a number.
 pub fn units(n: u32) -> u8
     ensures { λ r. ⌜ r ≡ digit (n % 10) ⌝ }
 {
-    DIGITS[(n % 10) as usize]
+    digit_of(n % 10)
 }
 
 pub(crate) fn put_two(out: &mut [u8], n: u32)
@@ -56,7 +49,7 @@ pub(crate) fn put_hex(out: &mut [u8], k: usize, w: u32)
     let mut i = k;
     while i > 0 {
         i -= 1;
-        out[i] = DIGITS[(rest % 16) as usize];
+        out[i] = digit_of(rest % 16);
         rest /= 16;
     }
 }

@@ -11,8 +11,8 @@ use native.Mathlib.Omega.{arith}
 use borrow.Author.Tests.{ltb-true, lt-ltb, le-ltb}
 use lib.Arith.{mod-mul}
 use lib.Dec.{eqb, ltb, lit<}
-use lib.ListN.{length, getD, take, drop, replicate, length-drop, List·getD-map}
-use lib.Seq.{take-at, drop-at, drop-drop, length-take-le}
+use lib.ListN.{length, getD, take, drop, replicate, length-drop, List·getD-append, List·getD-map}
+use lib.Seq.{take-at, drop-at, drop-drop, getD-append-add, length-take-le}
 use Rattle.buffer.specs.Front.{fromStart}
 use Rattle.table.specs.Refusal.{ROOM}
 use Rattle.table.proofs.Decided.{stops, passes, ends, apart, each}
@@ -103,6 +103,15 @@ digit-meant d h =
 
 same-digit : (c d : ℕ) → c < 16 → d < 16 → digit c ≡ digit d → c ≡ d
 same-digit c d h g e = sym (digit-meant c h) ∙ ap meant e ∙ digit-meant d g
+
+-- 0 to 9 are the codes from 48 on and A to F those from 65 on: the definition's table is these two runs, by computation
+pub decimal-code : (d : ℕ) → d < 10 → d + 48 ≡ digit d
+decimal-code d h = sym (List·getD-append (counted 10 48) (counted 6 65) 0 d h ∙ counted-at 10 48 d 0 h ∙ omega arith)
+
+pub letter-code : (d : ℕ) → 10 ≤ d → d < 16 → d + 55 ≡ digit d
+letter-code d h g =
+    let place : 10 + (d - 10) ≡ d = omega arith in
+    sym (ap digit (sym place) ∙ getD-append-add (counted 10 48) (counted 6 65) (d - 10) 0 ∙ counted-at 6 65 (d - 10) 0 (omega arith) ∙ omega arith)
 
 -- two numbers with the same last k hex digits agree modulo 16 ^ k, and with the same last two decimal digits modulo 100
 pub same-hex : (k v w : ℕ) → hexDigits k v ≡ hexDigits k w → v % 16 ^ k ≡ w % 16 ^ k

@@ -33,6 +33,8 @@ use Rattle.table.proofs.fields.first.Kinds as first-kinds
 use Rattle.table.proofs.fields.first.Reads as first-reads
 use Rattle.table.proofs.operands.reads.Kinds as reads-kinds
 use Rattle.table.proofs.operands.reads.Reads as reads-reads
+use Rattle.table.proofs.writes.is_nop.Kinds as is-nop-kinds
+use Rattle.table.proofs.writes.is_nop.Reads as is-nop-reads
 use Rattle.table.proofs.writes.target_of.Kinds as target-of-kinds
 use Rattle.table.proofs.writes.target_of.Reads as target-of-reads
 use Rattle.table.proofs.refusal.first_bad.Kinds as first-bad-kinds
@@ -86,6 +88,9 @@ first-unique = bounded (λ κs a. no-requires) (λ κs a v w. refl)
 
 pub reads-unique : Determined 0 reads-kinds.ps reads-kinds.r reads-reads.requires reads-reads.Post
 reads-unique = by-value (λ κs a. no-requires) (λ κs a v w. refl)
+
+pub is-nop-unique : Determined 0 is-nop-kinds.ps is-nop-kinds.r is-nop-reads.requires is-nop-reads.Post
+is-nop-unique = by-value (λ κs a. no-requires) (λ κs a v w. refl)
 
 pub target-of-unique : Determined 0 target-of-kinds.ps target-of-kinds.r target-of-reads.requires target-of-reads.Post
 target-of-unique = by-value (λ κs a. no-requires) (λ κs a v w. refl)

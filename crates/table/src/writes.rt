@@ -8,7 +8,8 @@ use crate::fields::is_li;
 use crate::fields::is_multiply;
 use crate::fields::rd;
 
-fn is_nop(w: u32) -> bool
+// Whether a word is a NOP, which writes nothing.
+pub fn is_nop(w: u32) -> bool
     ensures { λ r. ⌜ r ≡ isNop w ⌝ }
 {
     if is_li(w) {

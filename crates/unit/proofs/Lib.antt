@@ -1,4 +1,6 @@
 pub mod Starting
 pub mod Loop
+pub mod Flight
+pub mod ByLines
 pub mod CyclesAndRuns
 pub mod Unique

@@ -77,7 +77,7 @@ small-word w = record { first = first (isLi w); second = omega arith; third = om
 small-none : Small IF/ID.Empty
 small-none = record { first = omega arith; second = omega arith; third = omega arith; target = omega arith }
 
-small-fetched : (p : Program) (c : ℕ) → Small (fetchedIn p c)
+pub small-fetched : (p : Program) (c : ℕ) → Small (fetchedIn p c)
 small-fetched p zero = small-none
 small-fetched p (suc k) = go (ltb k (p .n .0))
   where

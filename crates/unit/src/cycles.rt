@@ -1,4 +1,4 @@
-// So many cycles on a unit: it is taken apart once, and nothing of the size of the register file or the program is handed on in a cycle.
+// Cycles made one by one, stage by stage: the unit is taken apart once, and nothing of the size of the register file or the program is handed on in a cycle.
 
 ghost use Prim.Native.Nat.{_+_, _≤_};
 ghost use mathlib.Core.Path.{_≡_};
@@ -7,10 +7,7 @@ ghost use Rattle.unit_rules.specs.Cycle.{cyclesOf};
 ghost use Rattle.unit_rules.specs.Record.{lastOf, wellMadeOf};
 ghost use Rattle.unit_rules.specs.Stages.{unitWith};
 use register::Register;
-use table::Count;
-use unit_rules::ExWb;
-use unit_rules::IdEx;
-use unit_rules::IfId;
+use unit_rules::InFlight;
 use unit_rules::Operands;
 use unit_rules::Unit;
 use unit_stages::decode;
@@ -19,19 +16,15 @@ use unit_stages::fetch;
 use unit_stages::write_back;
 
 // The unit put together again after so many cycles.
-fn reassembled(
-    u: Unit,
-    m: u32,
-    registers: [Register; 32],
-    count: Count,
-    fetched: IfId,
-    decoded: IdEx,
-    executed: ExWb,
-) -> Unit
+pub(crate) fn reassembled(u: Unit, m: u32, registers: [Register; 32], flight: InFlight) -> Unit
     requires { ⌜ u .cycle + m ≤ 67 ⌝ }
-    ensures { λ r. ⌜ r ≡ unitWith u m registers (record { count = count; fetched = fetched; decoded = decoded; executed = executed }) ⌝ }
+    ensures { λ r. ⌜ r ≡ unitWith u m registers flight ⌝ }
 {
     let program = u.program;
+    let count = flight.count;
+    let fetched = flight.fetched;
+    let decoded = flight.decoded;
+    let executed = flight.executed;
     Unit {
         program,
         count,
@@ -43,7 +36,7 @@ fn reassembled(
     }
 }
 
-pub(crate) fn cycles(u: Unit, m: u32) -> Unit
+pub(crate) fn one_by_one(u: Unit, m: u32) -> Unit
     requires { ⌜ (wellMadeOf u ≡ true) × (u .cycle + m ≤ lastOf (u .program .n .0)) ⌝ }
     ensures { λ r. ⌜ r ≡ cyclesOf m u ⌝ }
 {
@@ -78,5 +71,11 @@ pub(crate) fn cycles(u: Unit, m: u32) -> Unit
         fetched = fetch::delivered(n, count, words[here]);
         count = fetch::next_count(n, count);
     }
-    reassembled(u, m, registers, count, fetched, decoded, executed)
+    let flight = InFlight {
+        count,
+        fetched,
+        decoded,
+        executed,
+    };
+    reassembled(u, m, registers, flight)
 }

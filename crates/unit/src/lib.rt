@@ -6,12 +6,14 @@ ghost use Rattle.unit_rules.specs.Calls.{cycledOf, ranOf};
 mod ask;
 mod begin;
 mod cycles;
+mod settled;
 
 pub use crate::ask::drained;
 pub use crate::ask::register_of;
 pub use crate::begin::fresh;
 pub use crate::begin::start;
-use crate::cycles::cycles;
+use crate::cycles::one_by_one;
+use crate::settled::cycles;
 use table::refusal;
 use unit_record::is_drained;
 use unit_record::numbers::last;
@@ -32,7 +34,7 @@ pub fn cycle(u: Unit) -> Cycled
                 unit: u,
             };
         }
-        let after = cycles(u, 1);
+        let after = one_by_one(u, 1);
         return Cycled {
             refusal: 0,
             unit: after,

@@ -7,6 +7,10 @@ use Rattle.unit_record.proofs.numbers.lesser.Kinds as lesser-kinds
 use Rattle.unit_record.proofs.numbers.lesser.Reads as lesser-reads
 use Rattle.unit_record.proofs.numbers.last.Kinds as last-kinds
 use Rattle.unit_record.proofs.numbers.last.Reads as last-reads
+use Rattle.unit_record.proofs.numbers.cycles_before.Kinds as cycles-before-kinds
+use Rattle.unit_record.proofs.numbers.cycles_before.Reads as cycles-before-reads
+use Rattle.unit_record.proofs.numbers.count_at.Kinds as count-at-kinds
+use Rattle.unit_record.proofs.numbers.count_at.Reads as count-at-reads
 use Rattle.unit_record.proofs.numbers.numbers_made.Kinds as numbers-made-kinds
 use Rattle.unit_record.proofs.numbers.numbers_made.Reads as numbers-made-reads
 use Rattle.unit_record.proofs.latches.in_decoded.Kinds as in-decoded-kinds
@@ -17,6 +21,8 @@ use Rattle.unit_record.proofs.latches.is_empty.Kinds as is-empty-kinds
 use Rattle.unit_record.proofs.latches.is_empty.Reads as is-empty-reads
 use Rattle.unit_record.proofs.latches.same_held.Kinds as same-held-kinds
 use Rattle.unit_record.proofs.latches.same_held.Reads as same-held-reads
+use Rattle.unit_record.proofs.fetched_in.Kinds as fetched-in-kinds
+use Rattle.unit_record.proofs.fetched_in.Reads as fetched-in-reads
 use Rattle.unit_record.proofs.well_made.Kinds as well-made-kinds
 use Rattle.unit_record.proofs.well_made.Reads as well-made-reads
 use Rattle.unit_record.proofs.is_drained.Kinds as is-drained-kinds
@@ -29,6 +35,12 @@ lesser-unique = by-value (λ κs a. no-requires) (λ κs a v w. refl)
 
 pub last-unique : Determined 0 last-kinds.ps last-kinds.r last-reads.requires last-reads.Post
 last-unique = by-value (λ κs a. no-requires) (λ κs a v w. refl)
+
+pub cycles-before-unique : Determined 0 cycles-before-kinds.ps cycles-before-kinds.r cycles-before-reads.requires cycles-before-reads.Post
+cycles-before-unique = by-value (λ κs a. no-requires) (λ κs a v w. refl)
+
+pub count-at-unique : Determined 0 count-at-kinds.ps count-at-kinds.r count-at-reads.requires count-at-reads.Post
+count-at-unique = by-value (λ κs a. no-requires) (λ κs a v w. refl)
 
 pub numbers-made-unique : Determined 0 numbers-made-kinds.ps numbers-made-kinds.r numbers-made-reads.requires numbers-made-reads.Post
 numbers-made-unique = by-value (λ κs a. no-requires) (λ κs a v w. refl)
@@ -44,6 +56,9 @@ is-empty-unique = by-value (λ κs a. no-requires) (λ κs a v w. refl)
 
 pub same-held-unique : Determined 0 same-held-kinds.ps same-held-kinds.r same-held-reads.requires same-held-reads.Post
 same-held-unique = by-value (λ κs a. no-requires) (λ κs a v w. refl)
+
+pub fetched-in-unique : Determined 1 fetched-in-kinds.ps fetched-in-kinds.r fetched-in-reads.requires fetched-in-reads.Post
+fetched-in-unique = by-value (λ κs a. no-requires) (λ κs a v w. refl)
 
 pub well-made-unique : Determined 0 well-made-kinds.ps well-made-kinds.r well-made-reads.requires well-made-reads.Post
 well-made-unique = by-value (λ κs a. no-requires) (λ κs a v w. refl)

@@ -1,7 +1,7 @@
 -- The tests of a record in their order, each as it came out. Carried by rewriting with each test.
 -- Assumes nothing.
-use Rattle.unit_rules.proofs.Shared.{ℕ, zero, suc, _-_, _<_, _≤_, _≡_, refl, sym, _∙_, Bool, true, false, false≢true, List, map, arith, lt-ltb}
-use Rattle.unit_rules.proofs.Shared.{le-ltb, le-leb, lt-leb, leb-true, leb-false, leb, length, getD, instructionOf, inDecoded, inExecuted, isEmpty}
+use Rattle.unit_rules.proofs.Shared.{ℕ, zero, suc, _-_, _<_, _≤_, _≡_, refl, Bool, true, false, List, arith, lt-ltb}
+use Rattle.unit_rules.proofs.Shared.{le-ltb, le-leb, lt-leb, getD, instructionOf, inDecoded, inExecuted, isEmpty}
 use Rattle.unit_rules.proofs.Shared.{drainedOf, afterIF, fetchedIn, sameHeld, latchesMade, numbersMade, wellMadeOf}
 use Rattle.table.specs.declared.Count.{Count}
 use Rattle.job_rules.specs.declared.Program.{Program}
@@ -9,7 +9,6 @@ use Rattle.unit_rules.specs.declared.Instruction.{Instruction}
 use Rattle.unit_rules.specs.declared.IfId.{IfId}
 use Rattle.unit_rules.specs.declared.IfId.the-variants as IF/ID
 use Rattle.unit_rules.specs.declared.Unit.{Unit}
-use Rattle.unit_record.proofs.RecordNumbers.{within, too-many-lines}
 
 -- ---- what is fetched in a cycle
 
@@ -24,8 +23,8 @@ module _ (words : List ℕ) (n : Count) (c : ℕ) where
   pub past-the-end : (c ≡ 0 → ⊥) → n .0 ≤ c - 1 → IF/ID.Empty ≡ fetchedIn program c
   past-the-end some h = rw (begun c some, le-ltb _ _ h)
 
-  pub at-a-line : (c ≡ 0 → ⊥) → {i : Instruction} → c - 1 < n .0 → i ≡ instructionOf (getD words (c - 1) 0) → IF/ID.Holds i ≡ fetchedIn program c
-  at-a-line some h e = rw (e, begun c some, lt-ltb _ _ h)
+  pub at-a-line : (c ≡ 0 → ⊥) → c - 1 < n .0 → {w : ℕ} → w ≡ getD words (c - 1) 0 → {i : Instruction} → i ≡ instructionOf w → IF/ID.Holds i ≡ fetchedIn program c
+  at-a-line some h word e = rw (e, word, begun c some, lt-ltb _ _ h)
 
 -- ---- three latches against what they should hold
 
@@ -41,16 +40,6 @@ module _ (p : Program) (c : ℕ) (f d e : IfId) {x : IfId} (first : x ≡ fetche
     third-decides is′ before′ third o = rw (← first, ← same, is, ← before, ← second, ← same′, is′, ← before′, ← third) o
 
 -- ---- a record
-
--- a test that came out true leaves at most 64 lines, all of them in the program's array
-pub lines-within : (p : Program) (count c : ℕ) {t : Bool} → length (map (λ (x : ℕ). x) (p .words)) ≡ 64 → t ≡ numbersMade p count c → t ≡ true
-    → p .n .0 ≤ length (p .words)
-lines-within p count c size test h =
-    within (p .words) (p .n .0) 64 size (go (leb (p .n .0) 64) refl)
-  where
-    go : (b : Bool) → leb (p .n .0) 64 ≡ b → p .n .0 ≤ 64
-    go true q = leb-true (p .n .0) 64 q
-    go false q = absurd (false≢true (too-many-lines p count c (leb-false (p .n .0) 64 q) ∙ sym test ∙ h))
 
 module _ (u : Unit) {t : Bool} (numbers : t ≡ numbersMade (u .program) (u .count .0) (u .cycle)) where
   pub other-numbers : t ≡ false → false ≡ wellMadeOf u

@@ -1,8 +1,7 @@
 // Whether a unit's record is well made, and whether the unit is drained.
 
-ghost use Prim.Native.Nat.{_≤_};
 ghost use mathlib.Core.Path.{_≡_};
-ghost use lib.ListN.{length};
+ghost use lib.ListN.{getD};
 ghost use Rattle.unit_rules.specs.Record.{drainedOf, latchesMade, wellMadeOf};
 ghost use Rattle.unit_rules.specs.Cycle.{fetchedIn};
 
@@ -20,9 +19,18 @@ use table::Count;
 use unit_rules::IfId;
 use unit_rules::Unit;
 
+// The word of a line, and 0 where there is no such word.
+fn word_at(words: &[u32], line: usize) -> u32
+    ensures { λ r. ⌜ r ≡ getD (now (words .entry)) line 0 ⌝ }
+{
+    if line < words.len() {
+        return words[line];
+    }
+    0
+}
+
 // What IF delivers in cycle c, counted from 1 at the start: line c - 1, or nothing outside 0 .. n - 1.
-fn fetched_in(words: &[u32], n: Count, c: u32) -> IfId
-    requires { ⌜ n .0 ≤ length (now words) ⌝ }
+pub fn fetched_in(words: &[u32], n: Count, c: u32) -> IfId
     ensures { λ r. ⌜ r ≡ fetchedIn (record { words = now (words .entry); n = n }) c ⌝ }
 {
     if c == 0 {
@@ -30,7 +38,7 @@ fn fetched_in(words: &[u32], n: Count, c: u32) -> IfId
     }
     let line = (c - 1) as usize;
     if line < n.0 as usize {
-        return IfId::Holds(instruction(words[line]));
+        return IfId::Holds(instruction(word_at(words, line)));
     }
     IfId::Empty
 }
@@ -43,7 +51,6 @@ fn latches_made(
     decoded: IfId,
     executed: IfId,
 ) -> bool
-    requires { ⌜ n .0 ≤ length (now words) ⌝ }
     ensures { λ r. ⌜ r ≡ latchesMade (record { words = now (words .entry); n = n }) c fetched decoded executed ⌝ }
 {
     if same_held(fetched, fetched_in(words, n, c)) {

@@ -18,7 +18,7 @@ pub fn lesser(a: u32, b: u32) -> u32
 }
 
 // The cycle so many before cycle c, and 0 where there is none.
-pub(crate) fn cycles_before(c: u32, k: u32) -> u32
+pub fn cycles_before(c: u32, k: u32) -> u32
     ensures { λ r. ⌜ r ≡ c - k ⌝ }
 {
     if c < k {
@@ -37,6 +37,16 @@ pub fn last(n: Count) -> u32
     n.0 as u32 + 3
 }
 
+// How many of a program's n lines have been fetched by cycle c.
+pub fn count_at(n: Count, c: u32) -> Count
+    ensures { λ r. ⌜ r ≡ record { 0 = min c (n .0) } ⌝ }
+{
+    if c < n.0 as u32 {
+        return Count(c as u8);
+    }
+    n
+}
+
 // Whether n, the words, the cycle number and the count are those of a well-made record.
 pub fn numbers_made(program: Program, count: Count, cycle: u32) -> bool
     ensures { λ r. ⌜ r ≡ numbersMade program (count .0) cycle ⌝ }
@@ -53,5 +63,5 @@ pub fn numbers_made(program: Program, count: Count, cycle: u32) -> bool
     if last(n) < cycle {
         return false;
     }
-    count.0 as u32 == lesser(cycle, n.0 as u32)
+    count.0 == count_at(n, cycle).0
 }

@@ -14,7 +14,8 @@ use Rattle.job_rules.proofs.Refusals.{accepted, read}
 use Rattle.unit_rules.specs.Sequence.Call.{cycle, run, register, drained, refusedStart}
 use Rattle.unit_rules.proofs.Positions.{drained-after, cycles-program, cycles-number}
 use Rattle.unit_rules.proofs.WellMade.{WellMade, well-made-test, well-made-gone, well-made-cycles, cycles-join, leftOf, goes-on}
-use Rattle.unit_rules.proofs.AsPipeline.{registers-after}
+use Rattle.unit_rules.specs.Settled.{settledOf}
+use Rattle.unit_rules.proofs.Settled.{unit-after}
 
 -- ---- a job that was read
 
@@ -83,9 +84,10 @@ module _ (j : Job) (u : Unit) (s : Sound j) where
   pub well-made-started : WellMade (goneOf (loadedOf j u))
   well-made-started = well-made-gone (loadedOf j u) (s .few) (s .good)
 
-  pub registers-started : Whole (u .registers) → (c : ℕ)
-      → cyclesOf c (goneOf (loadedOf j u)) .registers ≡ plain (take (c - 3) (linesOf (j .program))) (registersSet (j .r) (j .registers) (u .registers))
-  registers-started whole c = registers-after (loadedOf j u) (set-whole (j .r) (j .registers) (u .registers) whole) (omega (arith, s .few, s .lines)) c
+  pub unit-started : Whole (u .registers) → (c : ℕ)
+      → cyclesOf c (goneOf (loadedOf j u))
+      ≡ settledOf (j .program) c (plain (take (c - 3) (linesOf (j .program))) (registersSet (j .r) (j .registers) (u .registers)))
+  unit-started whole c = unit-after (loadedOf j u) (set-whole (j .r) (j .registers) (u .registers) whole) (omega (arith, s .few, s .lines)) c
 
 -- ---- calls of `cycle` on a well-made unit
 

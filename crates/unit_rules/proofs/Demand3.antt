@@ -12,9 +12,11 @@ use Rattle.plain_rules.proofs.Refusals.{executed}
 use Rattle.table.proofs.Decided.{passes, ends, not-denied}
 use Rattle.unit_rules.specs.declared.Started.{Started}
 use Rattle.unit_rules.specs.declared.Drained.{Drained}
-use Rattle.unit_rules.proofs.Positions.{drained-after, placed-cycles, cycles-program, cycles-number}
+use Rattle.unit_rules.specs.Settled.{settledOf}
+use Rattle.unit_rules.proofs.Positions.{drained-after, cycles-program, cycles-number}
+use Rattle.unit_rules.proofs.Settled.{settled-placed}
 use Rattle.unit_rules.proofs.WellMade.{WellMade, well-made-test, well-made-cycles, cycles-join, leftOf}
-use Rattle.unit_rules.proofs.Calls.{Sound, all-made, ran, start-refused, sound-read, started-is, set-from-file, left-as-they-were, well-made-started, registers-started, next-call, no-call, calls-are-cycles}
+use Rattle.unit_rules.proofs.Calls.{Sound, all-made, ran, start-refused, sound-read, started-is, set-from-file, left-as-they-were, well-made-started, unit-started, next-call, no-call, calls-are-cycles}
 
 -- ---- the start
 
@@ -81,9 +83,14 @@ module _ (file : List ℕ) (u : Unit) (whole : Whole (u .registers)) (accepts : 
         ap (unitAfterAll calls) is-gone ∙ a .0 ∙ ap (λ (k : ℕ). cyclesOf k gone) (zero-add (cyclesInAll calls gone) ∙ sym same),
       )
 
-  -- After c cycles the registers are what the plain machine leaves after the first c - 3 words, beginning from the registers as the start set them.
+  -- After c cycles the whole unit is told by its program, by c and by what the plain machine leaves after the first c - 3 words: what the latches hold are lines of
+  -- the program, with what is read in these registers and made of it.
+  pub demand3-unit : (c : ℕ) → c ≤ lastOf n → afterCalls c started ≡ settledOf (job .program) c (plain (take (c - 3) lines) set)
+  demand3-unit c h = are-cycles c h ∙ unit-started job u sound whole c
+
+  -- So the registers are what the plain machine leaves after the first c - 3 words, beginning from the registers as the start set them.
   pub demand3-registers : (c : ℕ) → c ≤ lastOf n → afterCalls c started .registers ≡ plain (take (c - 3) lines) set
-  demand3-registers c h = ap (λ (v : Unit). v .registers) (are-cycles c h) ∙ registers-started job u sound whole c
+  demand3-registers c h = ap (λ (v : Unit). v .registers) (demand3-unit c h)
 
   -- Drained exactly at n + 3 cycles, or at once with n = 0, and never sooner.
   pub demand3-drained : (c : ℕ) → c ≤ lastOf n → drainedOf (afterCalls c started) ≡ leb (lastOf n) c
@@ -100,7 +107,7 @@ module _ (file : List ℕ) (u : Unit) (whole : Whole (u .registers)) (accepts : 
 
   -- Its cycle number is the number of cycles since the start.
   pub demand3-number : (c : ℕ) → c ≤ lastOf n → afterCalls c started .cycle ≡ c
-  demand3-number c h = ap (λ (v : Unit). v .cycle) (are-cycles c h) ∙ cycles-number c gone ∙ zero-add c
+  demand3-number c h = ap (λ (v : Unit). v .cycle) (demand3-unit c h)
 
   -- The latches hold what was fetched in cycles c, c-1 and c-2: instructions c-1, c-2 and c-3, or nothing outside 0 .. n-1.
   pub demand3-latches : (c : ℕ) → c ≤ lastOf n
@@ -108,13 +115,11 @@ module _ (file : List ℕ) (u : Unit) (whole : Whole (u .registers)) (accepts : 
       × (inDecoded (afterCalls c started .decoded) ≡ fetchedIn (job .program) (c - 1))
       × (inExecuted (afterCalls c started .executed) ≡ fetchedIn (job .program) (c - 2))
   demand3-latches c h =
-      let p = placed-cycles c gone (made .placed) in
-      let number = cycles-number c gone ∙ zero-add c in
-      let fetched : (ago : ℕ → ℕ) → fetchedIn (cyclesOf c gone .program) (ago (cyclesOf c gone .cycle)) ≡ fetchedIn (job .program) (ago c)
-      = λ ago. rw (cycles-program c gone, number) in (
-        ap (λ (v : Unit). v .fetched) (are-cycles c h) ∙ p .in-IF/ID ∙ fetched (λ k. k),
-        ap (λ (v : Unit). inDecoded (v .decoded)) (are-cycles c h) ∙ p .in-ID/EX ∙ fetched (λ k. k - 1),
-        ap (λ (v : Unit). inExecuted (v .executed)) (are-cycles c h) ∙ p .in-EX/WB ∙ fetched (λ k. k - 2),
+      let e = demand3-unit c h in
+      let p = settled-placed (job .program) c (plain (take (c - 3) lines) set) in (
+        ap (λ (v : Unit). v .fetched) e,
+        ap (λ (v : Unit). inDecoded (v .decoded)) e ∙ p .in-ID/EX,
+        ap (λ (v : Unit). inExecuted (v .executed)) e ∙ p .in-EX/WB,
       )
 
   -- A call of `cycle` is refused with 8 exactly when the unit is drained.
@@ -150,7 +155,7 @@ module _ (file : List ℕ) (u : Unit) (whole : Whole (u .registers)) (accepts : 
       let a = all-calls calls in (
         a .0,
         a .1 ∙ sym (are-cycles c (a .0)),
-        ap (λ (v : Unit). v .registers) (a .1) ∙ registers-started job u sound whole c,
+        ap (λ (v : Unit). v .registers) (a .1 ∙ unit-started job u sound whole c),
       )
 
   -- However a run is split into runs and single cycles, with other calls between: as many cycles leave the same unit.

@@ -5,6 +5,7 @@ pub mod OneCycle
 pub mod WellMade
 pub mod AfterEachCycle
 pub mod AsPipeline
+pub mod Settled
 pub mod Calls
 pub mod Theorems
 pub mod Demand3

@@ -44,11 +44,11 @@ next-min n c =
     (λ h. let m : min c n ≡ c = omega arith in rw (m, lt-ltb c n h) (omega arith))
     (λ h. let m : min c n ≡ n = omega arith in rw (m, le-ltb n n (omega arith)) (omega arith))
 
-id-keeps : (z : IfId) (f : List Register) → inDecoded (afterID z f) ≡ z
+pub id-keeps : (z : IfId) (f : List Register) → inDecoded (afterID z f) ≡ z
 id-keeps IF/ID.Empty f = refl
 id-keeps (IF/ID.Holds i) f = refl
 
-ex-keeps : (x : ExWb) (y : IdEx) → inExecuted (afterEX x y) ≡ inDecoded y
+pub ex-keeps : (x : ExWb) (y : IdEx) → inExecuted (afterEX x y) ≡ inDecoded y
 ex-keeps x ID/EX.Empty = refl
 ex-keeps x (ID/EX.Holds i o) = refl
 

@@ -12,7 +12,7 @@ pub use borrow.Author.Tests.{eqb-true, eqb-false, ltb-true, ltb-false, eq-eqb, n
 pub use borrow.Author.Needs.{needs}
 pub use lib.Dec.{eqb, ltb, leb, leb·zero}
 pub use lib.ListN.{getD, set, take, length, length-set, drop, length-append, length-replicate, replicate, length-drop}
-pub use lib.Seq.{getD-set-same, getD-set-other, getD-take, take-suc, take-all, length-take-le, take-append-seam, take-at, sets-eq}
+pub use lib.Seq.{getD-set-same, getD-set-other, getD-take, take-all, length-take-le, take-append-seam, take-at, sets-eq}
 pub use Rattle.register.specs.declared.Register.{Register}
 pub use Rattle.register.specs.Layout.{zeroRegister, wordAt, ofBytes, rowOf}
 pub use Rattle.table.specs.declared.Pointer.{Pointer}
@@ -26,7 +26,7 @@ pub use Rattle.table.specs.Refusal.{DRAINED, STATE, ROOM}
 unfoldable pub use Rattle.table.specs.Refusal.{firstBad}
 pub use Rattle.plain_rules.specs.Machine.{stored, step, plain, plainRows}
 unfoldable pub use Rattle.plain_rules.specs.Machine.{stepOn, plainOn}
-pub use Rattle.plain_rules.proofs.Theorems.{one-after-another, lone-word, registers-as-rows}
+pub use Rattle.plain_rules.proofs.Theorems.{one-more, registers-as-rows}
 pub use Rattle.job_rules.specs.declared.Job.{Job}
 pub use Rattle.job_rules.specs.declared.ReadJob.{ReadJob}
 pub use Rattle.job_rules.specs.Layout.{instructionsAt, twoAt, registersAt, wordsIn, registersOf, LARGEST}

@@ -3,3 +3,4 @@ pub mod Record
 pub mod Calls
 pub mod Sequence
 pub mod Stages
+pub mod Settled

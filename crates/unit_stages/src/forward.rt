@@ -1,6 +1,8 @@
 // Forwarding: where WB writes a register that EX's instruction reads, its value takes the place of the latched one. The table of what is read decides.
 
 ghost use mathlib.Core.Path.{_≡_};
+ghost use mathlib.Core.Bool.{_&&_, _||_};
+ghost use lib.Dec.{eqb};
 ghost use Rattle.table.specs.Operation.{takesFirst, takesSecond, takesThird};
 ghost use Rattle.unit_rules.specs.Stages.{newestBy, newestOperandsBy};
 use register::Register;
@@ -63,8 +65,16 @@ fn newest(reads: bool, write: Write, from: Pointer, latched: Register) -> Regist
     latched
 }
 
-// The operands that EX takes.
-pub fn newest_operands(write: Write, i: Instruction, o: Operands) -> Operands
+// Whether WB writes a register that a field of the instruction names, read or not.
+fn names_written(write: Write, i: Instruction) -> bool
+    ensures { λ r. ⌜ r ≡ (write .writes && (eqb (write .at .0) (i .first .0) || eqb (write .at .0) (i .second .0) || eqb (write .at .0) (i .third .0))) ⌝ }
+{
+    let at = write.at.0;
+    write.writes && (at == i.first.0 || at == i.second.0 || at == i.third.0)
+}
+
+// By the table.
+fn forwarded(write: Write, i: Instruction, o: Operands) -> Operands
     ensures { λ r. ⌜ r ≡ newestOperandsBy write i o ⌝ }
 {
     let reads = operands::reads(i.word);
@@ -72,5 +82,16 @@ pub fn newest_operands(write: Write, i: Instruction, o: Operands) -> Operands
         first: newest(takes_first(reads), write, i.first, o.first),
         second: newest(takes_second(reads), write, i.second, o.second),
         third: newest(takes_third(reads), write, i.third, o.third),
+    }
+}
+
+// The operands that EX takes. The table is asked only where WB writes a register that the instruction could read.
+pub fn newest_operands(write: Write, i: Instruction, o: Operands) -> Operands
+    ensures { λ r. ⌜ r ≡ newestOperandsBy write i o ⌝ }
+{
+    if names_written(write, i) {
+        forwarded(write, i, o)
+    } else {
+        o
     }
 }

@@ -4,5 +4,4 @@ use Rattle.alu.proofs.result as this
 
 pub result-spec : {M : Type 1} → this.Statement.statement M
 result-spec =
-    this.Tie.close
-    (this.Tie.spec _ _ _ _ (λ c. search li-result) _ _ _ _ _ (λ c. search multiply-result) _ (λ c. search short-result))
+    this.Tie.close (this.Tie.spec _ _ (λ c. search li-result) _ _ (λ c. search multiply-result) _ (λ c. search short-result))

@@ -11,4 +11,4 @@ unfolding cycledOf cyclesOf
 cycle-spec =
     this.Tie.close
     (this.Tie.spec _ _ (λ c. search deciding depth 12) (λ c κs. (search made, search (a-cycle-left, needs)))
-    (λ c. rw (c .cycles .ensures) (search deciding depth 12)) (λ c. search deciding depth 12))
+    (λ c. rw (c .one-by-one .ensures) (search deciding depth 12)) (λ c. search deciding depth 12))

@@ -6,5 +6,4 @@ use Rattle.unit_record.proofs.latches_made as this
 pub latches-made-spec : {M : Type 1} → this.Statement.statement M
 latches-made-spec =
     this.Tie.close
-    (this.Tie.spec (λ c. search needs) _ _ (λ c. search needs) _ _ (λ c. search needs) _ (λ c. search (third-decides, needs))
-    (λ c. search (other-second, needs)) (λ c. search (other-first, needs)))
+    (this.Tie.spec _ _ _ _ _ _ _ _ (λ c. search (third-decides, needs)) (λ c. search (other-second, needs)) (λ c. search (other-first, needs)))

@@ -18,6 +18,5 @@ abbrev μ-loop : this.Tie.MeasureT-loop
 pub put-hex-spec : {M : Type 1} → this.Statement.statement M
 put-hex-spec =
     this.Tie.close
-    (this.Tie.spec Inv-loop μ-loop (λ c. (search needs, refl, search all-left, search no-digit)) (λ c. search needs) (λ c. search needs)
-    (λ c. search needs) (λ c. search needs) (λ c. search needs) (λ c. search (less-left, digit-more, needs)) (λ c. search needs)
-    (λ c. search (all-digits, needs)))
+    (this.Tie.spec Inv-loop μ-loop (λ c. (search needs, refl, search all-left, search no-digit)) (λ c. search needs) (λ c κs. search needs)
+    (λ c. search needs) (λ c. search needs) (λ c. search (less-left, digit-more, needs)) (λ c. search needs) (λ c. search (all-digits, needs)))

@@ -10,5 +10,5 @@ numbers-made-spec =
     this.Tie.close
     (this.Tie.spec (λ c. search needs) (λ c. search (too-many-lines, needs)) (λ c. search (within, needs))
     (λ c. sym (length-take-le _ _ (search (within, needs)))) _
-    (λ c. search (bad-word, needs)) _ (λ c. search (beyond-last, needs)) (λ c. search needs) (λ c. search needs) _
+    (λ c. search (bad-word, needs)) _ (λ c. search (beyond-last, needs)) _
     (λ c. search (count-decides, needs)))

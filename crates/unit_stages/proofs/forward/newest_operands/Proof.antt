@@ -1,18 +1,7 @@
--- Carried by the contract of `newest`, at what the table says is read.
+-- Carried by `none-named`, where WB writes no register that a field names.
+use borrow.Author.Needs.{needs}
+use Rattle.unit_stages.proofs.Newest.{none-named}
 use Rattle.unit_stages.proofs.forward.newest_operands as this
 
-returns : this.Tie.Need-returns
-returns c =
-    let first = c .before .before .before .before in
-    rw (
-      c .newest3 .ensures,
-      c .before .takes-third .ensures,
-      c .before .before .newest2 .ensures,
-      c .before .before .before .takes-second .ensures,
-      first .newest .ensures,
-      first .before .takes-first .ensures,
-      first .before .before .reads .ensures,
-    )
-
 pub newest-operands-spec : {M : Type 1} → this.Statement.statement M
-newest-operands-spec = this.Tie.close (this.Tie.spec _ _ _ _ _ _ _ returns)
+newest-operands-spec = this.Tie.close (this.Tie.spec _ _ (λ c. search needs) (λ c. search none-named))

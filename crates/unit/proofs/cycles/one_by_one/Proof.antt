@@ -2,7 +2,7 @@
 use Rattle.unit_rules.proofs.Shared.{_-_, _≤_, true, ⊎-elim, _≡_, refl, _∙_, arith, needs, cyclesOf, wellMadeOf, unitWith}
 use Rattle.unit_rules.proofs.WellMade.{well-made-says, last-small}
 use Rattle.unit.proofs.Loop.{none-yet, turn, more, all-made, first-in-range, second-in-range, third-in-range, write-in-range}
-use Rattle.unit.proofs.cycles.cycles as this
+use Rattle.unit.proofs.cycles.one_by_one as this
 
 abbrev Inv-loop : this.Tie.InvT-loop
 Inv-loop u m words n registers₀ count₀ fetched₀ decoded₀ executed₀ made₀ registers count fetched decoded executed made =
@@ -32,8 +32,8 @@ loop-again c =
           })),
     )
 
-pub cycles-spec : {M : Type 1} → this.Statement.statement M
-cycles-spec =
+pub one-by-one-spec : {M : Type 1} → this.Statement.statement M
+one-by-one-spec =
     this.Tie.close
     (this.Tie.spec Inv-loop μ-loop (λ c. (search needs, omega arith, none-yet _ refl)) (λ c. search needs) _ (λ c. search needs) (λ c. search needs)
     (λ c. search write-in-range) _ (λ c. search needs) (λ c. search needs) (λ c. search needs) _ (λ c. search needs) (λ c. search first-in-range)

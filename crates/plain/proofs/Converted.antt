@@ -1,0 +1,45 @@
+-- The rows of a file as registers, and registers as rows: a list filled from front to back with what a function makes of another's entries, and the plain machine in
+-- between. Carried by `take-suc`, the first entries and one more, and by `registers-as-rows`.
+-- Assumes nothing.
+use Prim.Native.Nat.{ℕ, _+_, _<_, _≤_}
+use mathlib.Core.Path.{_≡_, refl, sym, ap, ap₂, _∙_}
+use mathlib.Core.List.{List, [], _∷_, _++_, map}
+use native.Mathlib.Numerals.{add-one}
+use native.Mathlib.Omega.{arith}
+use lib.ListN.{length, take, getD, set, length-map, List·getD-map}
+use lib.Seq.{take-suc, take-suc-set, take-all}
+use mir.Val.{Val}
+use denote.Array.{Array, each}
+use denote.Builtin as builtin
+use denote.Laws.{Is}
+use denote.Shadow.{shadow}
+use Rattle.register.specs.declared.Register.{Register}
+use Rattle.register.specs.Layout.{rowOf, ofRow}
+use Rattle.register.proofs.Theorems.{from-row-and-back}
+use Rattle.plain_rules.specs.Machine.{plain, plainRows}
+use Rattle.plain_rules.proofs.Theorems.{registers-as-rows}
+
+-- the list l, of n entries, filled up to i with h of those of f
+module _ {A B : Type 0} (h : A → B) (none : A) (f : List A) (l : List B) (i n : ℕ) (whole : length f ≡ n) (room : length l ≡ n)
+    (so-far : take i l ≡ take i (map h f)) where
+  pub next-filled : i < n → {b : B} → b ≡ h (getD f i none) → take (i + 1) (set l i b) ≡ take (i + 1) (map h f)
+  next-filled k e =
+      rw add-one
+      (take-suc-set l i _ (omega arith)
+      ∙ ap₂ (λ (q : List B) (y : B). q ++ (y ∷ [])) so-far (e ∙ sym (List·getD-map h f i none))
+      ∙ sym (take-suc (map h f) i (h none) (omega (arith, length-map f h))))
+
+  pub all-filled : n ≤ i → l ≡ map h f
+  all-filled k = sym (take-all i l (omega arith)) ∙ so-far ∙ take-all i (map h f) (omega (arith, length-map f h))
+
+-- every row that a function is handed has four words, so that it is the row of its register
+rows-again : (xs : List (List ℕ)) (us : List Val) → shadow (each (List ℕ) (Array builtin.u32 4 .own) xs us) → map rowOf (map ofRow xs) ≡ xs
+rows-again [] us s = refl
+rows-again (x ∷ xs) [] s = absurd s
+rows-again (x ∷ xs) (u ∷ us) s = λ i. from-row-and-back x (s .0 .1 .0 .1) i ∷ rows-again xs us (s .1) i
+
+-- rows read as registers, the program on these, and what it leaves as rows again
+pub on-registers : (p : List ℕ) (rows : List (List ℕ)) {vs : List Val} {f g : List Register} {r : List (List ℕ)} → Is (Array (Array builtin.u32 4) 32) rows vs
+    → f ≡ map ofRow rows → g ≡ plain p f → r ≡ map rowOf g → r ≡ plainRows p rows
+on-registers p rows is before after written =
+    written ∙ ap (map rowOf) (after ∙ ap (plain p) before) ∙ registers-as-rows p (map ofRow rows) ∙ ap (plainRows p) (rows-again rows (is .0) (is .1 .1))
