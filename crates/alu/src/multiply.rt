@@ -23,11 +23,7 @@ fn multiply_word(subtract: bool, high: bool, rs1: u32, rs2: u32, rs3: u32) -> u3
 {
     let a = half_of_word(rs3, high);
     let b = half_of_word(rs2, high);
-    if subtract {
-        clamped::multiply_subtract_16(rs1, a, b)
-    } else {
-        clamped::multiply_add_16(rs1, a, b)
-    }
+    clamped::multiply_16(subtract, rs1, a, b)
 }
 
 fn multiply_long(subtract: bool, high: bool, rs1: u64, rs2: u64, rs3: u64) -> u64
@@ -35,11 +31,7 @@ fn multiply_long(subtract: bool, high: bool, rs1: u64, rs2: u64, rs3: u64) -> u6
 {
     let a = half_of_long(rs3, high);
     let b = half_of_long(rs2, high);
-    if subtract {
-        clamped::multiply_subtract_32(rs1, a, b)
-    } else {
-        clamped::multiply_add_32(rs1, a, b)
-    }
+    clamped::multiply_32(subtract, rs1, a, b)
 }
 
 fn multiply_words(

@@ -1,18 +1,14 @@
 -- Exact integers as differences of naturals, `subℕ a b`: so a sum of integers is a sum of naturals, which omega reads.
 -- Assumes nothing.
-use Prim.Native.Nat.{ℕ, zero, suc, _+_, _-_, _*_, _≤_, _<_}
-use mathlib.Core.Path.{_≡_, refl, sym, ap, ap₂, _∙_}
-use mathlib.Core.Bool.{Bool, true, false, not, Bool·beq}
+use Prim.Native.Nat.{ℕ, suc, _+_, _-_, _*_, _≤_, _<_}
+use mathlib.Core.Path.{_≡_, sym, ap, ap₂, _∙_}
 use native.Mathlib.Omega.{arith}
-use native.Mathlib.Nat.{mul-zero, zero-mul}
+use native.Mathlib.Nat.{add-mul, mul-add}
 use borrow.Author.Tests.{lt-ltb, le-ltb}
 use lib.Dec.{ltb}
-use lib.IntN.{ℤ, pos, negsuc, negℤ, negℤ-negℤ, subℕ, _+ℤ_, _-ℤ_, _*ℤ_}
+use lib.IntN.{pos, negsuc, negℤ, subℕ, _+ℤ_, _*ℤ_, +ℤ-idl}
 use lib.Signed.{ltZ}
-use Rattle.alu_rules.proofs.Integers.{either, sub-pos, sub-neg}
-use Rattle.alu_lanes.specs.Sign.{withSign}
-
--- ---- sums of differences
+use Rattle.alu_rules.proofs.Integers.{either, sub-pos, sub-neg, pos-minus}
 
 pub sub-same : (a b c d : ℕ) → a + d ≡ c + b → subℕ a b ≡ subℕ c d
 sub-same a b c d e =
@@ -20,18 +16,57 @@ sub-same a b c d e =
     (λ h. sub-neg a b h ∙ ap negsuc (omega arith) ∙ sym (sub-neg c d (omega arith)))
     (λ h. sub-pos a b h ∙ ap pos (omega arith) ∙ sym (sub-pos c d (omega arith)))
 
-pub sub-plus : (a b c : ℕ) → subℕ a b +ℤ pos c ≡ subℕ (a + c) b
-sub-plus a b c =
-    either a b
-    (λ h. ap (λ (z : ℤ). z +ℤ pos c) (sub-neg a b h) ∙ sub-same c (suc (b - suc a)) (a + c) b (omega arith))
-    (λ h. ap (λ (z : ℤ). z +ℤ pos c) (sub-pos a b h) ∙ ap pos (omega arith) ∙ sym (sub-pos (a + c) b (omega arith)))
+-- n, and -n
+pub pos-as : (n a b : ℕ) → n + b ≡ a → pos n ≡ subℕ a b
+pos-as n a b e = ap pos (omega arith) ∙ sym (sub-pos a b (omega arith))
 
-pub sub-minus : (a b c : ℕ) → subℕ a b -ℤ pos c ≡ subℕ a (b + c)
-sub-minus a b zero = sub-plus a b 0 ∙ sub-same (a + 0) b a (b + 0) (omega arith)
-sub-minus a b (suc c) =
+neg-as : (n a b : ℕ) → a + n ≡ b → negℤ (pos n) ≡ subℕ a b
+neg-as n a b e = sym (+ℤ-idl (negℤ (pos n))) ∙ pos-minus 0 n ∙ sub-same 0 n a b (omega arith)
+
+-- ---- sums, negation and products of differences
+
+pub sub-sum : (a b c d : ℕ) → subℕ a b +ℤ subℕ c d ≡ subℕ (a + c) (b + d)
+sub-sum a b c d =
     either a b
-    (λ h. ap (λ (z : ℤ). z +ℤ negsuc c) (sub-neg a b h) ∙ ap negsuc (omega arith) ∙ sym (sub-neg a (b + suc c) (omega arith)))
-    (λ h. ap (λ (z : ℤ). z +ℤ negsuc c) (sub-pos a b h) ∙ sub-same (a - b) (suc c) a (b + suc c) (omega arith))
+    (λ h. either c d
+    (λ l. ap₂ _+ℤ_ (sub-neg a b h) (sub-neg c d l) ∙ ap negsuc (omega arith) ∙ sym (sub-neg (a + c) (b + d) (omega arith)))
+    (λ l. ap₂ _+ℤ_ (sub-neg a b h) (sub-pos c d l) ∙ sub-same (c - d) (suc (b - suc a)) (a + c) (b + d) (omega arith)))
+    (λ h. either c d
+    (λ l. ap₂ _+ℤ_ (sub-pos a b h) (sub-neg c d l) ∙ sub-same (a - b) (suc (d - suc c)) (a + c) (b + d) (omega arith))
+    (λ l. ap₂ _+ℤ_ (sub-pos a b h) (sub-pos c d l) ∙ pos-as (a - b + (c - d)) (a + c) (b + d) (omega arith)))
+
+pub sub-swap : (a b : ℕ) → negℤ (subℕ a b) ≡ subℕ b a
+sub-swap a b =
+    either a b
+    (λ h. ap negℤ (sub-neg a b h) ∙ pos-as (suc (b - suc a)) b a (omega arith))
+    (λ h. ap negℤ (sub-pos a b h) ∙ neg-as (a - b) b a (omega arith))
+
+cross : (a b c d m n : ℕ) → b ≡ a + m → d ≡ c + n → m * n + (a * d + b * c) ≡ a * c + b * d
+cross a b c d m n e f = rw (e, f) (simp (add-mul, mul-add) (omega arith))
+
+pub sub-times : (a b c d : ℕ) → subℕ a b *ℤ subℕ c d ≡ subℕ (a * c + b * d) (a * d + b * c)
+sub-times a b c d =
+    let p = a * c + b * d in
+    let q = a * d + b * c in
+    either a b
+    (λ h.
+    let m = suc (b - suc a) in
+    either c d
+    (λ l.
+    let n = suc (d - suc c) in
+    ap₂ _*ℤ_ (sub-neg a b h) (sub-neg c d l) ∙ pos-as (m * n) p q (cross a b c d m n (omega arith) (omega arith)))
+    (λ l.
+    let n = c - d in
+    ap₂ _*ℤ_ (sub-neg a b h) (sub-pos c d l) ∙ neg-as (m * n) p q (omega (arith, cross a b d c m n (omega arith) (omega arith)))))
+    (λ h.
+    let m = a - b in
+    either c d
+    (λ l.
+    let n = suc (d - suc c) in
+    ap₂ _*ℤ_ (sub-pos a b h) (sub-neg c d l) ∙ neg-as (m * n) p q (omega (arith, cross b a c d m n (omega arith) (omega arith))))
+    (λ l.
+    let n = c - d in
+    ap₂ _*ℤ_ (sub-pos a b h) (sub-pos c d l) ∙ pos-as (m * n) p q (omega (arith, cross b a d c m n (omega arith) (omega arith)))))
 
 -- ---- the order of two differences from one number
 
@@ -47,29 +82,3 @@ sub-order u v h =
     (λ l. either v h
     (λ m. ap₂ ltZ (sub-pos u h l) (sub-neg v h m) ∙ sym (le-ltb u v (omega arith)))
     (λ m. ap₂ ltZ (sub-pos u h l) (sub-pos v h m) ∙ same-test (u - h) (v - h) u v (λ x. omega arith) (λ x. omega arith)))
-
--- ---- a sign and a size
-
-pos-neg : (a b : ℕ) → pos a *ℤ negℤ (pos b) ≡ negℤ (pos (a * b))
-pos-neg a zero = rw mul-zero
-pos-neg a (suc b) = refl
-
-neg-times-pos : (a b : ℕ) → negℤ (pos a) *ℤ pos b ≡ negℤ (pos (a * b))
-neg-times-pos zero b = rw zero-mul
-neg-times-pos (suc a) b = refl
-
-neg-times-neg : (a b : ℕ) → negℤ (pos a) *ℤ negℤ (pos b) ≡ pos (a * b)
-neg-times-neg zero b = pos-neg 0 b ∙ rw zero-mul
-neg-times-neg (suc a) zero = rw mul-zero
-neg-times-neg (suc a) (suc b) = refl
-
--- the product of two integers has the product of the sizes, and is negative where the signs differ
-pub product-of-signs : (m n : Bool) (a b : ℕ) → withSign (not (Bool·beq m n)) (a * b) ≡ withSign m a *ℤ withSign n b
-product-of-signs true true a b = sym (neg-times-neg a b)
-product-of-signs true false a b = sym (neg-times-pos a b)
-product-of-signs false true a b = sym (pos-neg a b)
-product-of-signs false false a b = refl
-
-pub other-sign : (n : Bool) (m : ℕ) → withSign (not n) m ≡ negℤ (withSign n m)
-other-sign true m = sym (negℤ-negℤ (pos m))
-other-sign false m = refl

@@ -23,14 +23,10 @@ use Rattle.alu_lanes.proofs.bitwise.or.Kinds as or-kinds
 use Rattle.alu_lanes.proofs.bitwise.or.Reads as or-reads
 use Rattle.alu_lanes.proofs.bitwise.and.Kinds as and-kinds
 use Rattle.alu_lanes.proofs.bitwise.and.Reads as and-reads
-use Rattle.alu_lanes.proofs.clamped.multiply_add_16.Kinds as multiply-add-16-kinds
-use Rattle.alu_lanes.proofs.clamped.multiply_add_16.Reads as multiply-add-16-reads
-use Rattle.alu_lanes.proofs.clamped.multiply_subtract_16.Kinds as multiply-subtract-16-kinds
-use Rattle.alu_lanes.proofs.clamped.multiply_subtract_16.Reads as multiply-subtract-16-reads
-use Rattle.alu_lanes.proofs.clamped.multiply_add_32.Kinds as multiply-add-32-kinds
-use Rattle.alu_lanes.proofs.clamped.multiply_add_32.Reads as multiply-add-32-reads
-use Rattle.alu_lanes.proofs.clamped.multiply_subtract_32.Kinds as multiply-subtract-32-kinds
-use Rattle.alu_lanes.proofs.clamped.multiply_subtract_32.Reads as multiply-subtract-32-reads
+use Rattle.alu_lanes.proofs.clamped.multiply_16.Kinds as multiply-16-kinds
+use Rattle.alu_lanes.proofs.clamped.multiply_16.Reads as multiply-16-reads
+use Rattle.alu_lanes.proofs.clamped.multiply_32.Kinds as multiply-32-kinds
+use Rattle.alu_lanes.proofs.clamped.multiply_32.Reads as multiply-32-reads
 use Rattle.alu_lanes.proofs.clamped.add_clamped.Kinds as add-clamped-kinds
 use Rattle.alu_lanes.proofs.clamped.add_clamped.Reads as add-clamped-reads
 use Rattle.alu_lanes.proofs.clamped.subtract_from_clamped.Kinds as subtract-from-clamped-kinds
@@ -74,19 +70,11 @@ or-unique = by-value (λ κs a. no-requires) (λ κs a v w. refl)
 pub and-unique : Determined 0 and-kinds.ps and-kinds.r and-reads.requires and-reads.Post
 and-unique = by-value (λ κs a. no-requires) (λ κs a v w. refl)
 
-pub multiply-add-16-unique : Determined 0 multiply-add-16-kinds.ps multiply-add-16-kinds.r multiply-add-16-reads.requires multiply-add-16-reads.Post
-multiply-add-16-unique = by-value (λ κs a. no-requires) (λ κs a v w. refl)
+pub multiply-16-unique : Determined 0 multiply-16-kinds.ps multiply-16-kinds.r multiply-16-reads.requires multiply-16-reads.Post
+multiply-16-unique = by-value (λ κs a. no-requires) (λ κs a v w. refl)
 
-pub multiply-subtract-16-unique :
-    Determined 0 multiply-subtract-16-kinds.ps multiply-subtract-16-kinds.r multiply-subtract-16-reads.requires multiply-subtract-16-reads.Post
-multiply-subtract-16-unique = by-value (λ κs a. no-requires) (λ κs a v w. refl)
-
-pub multiply-add-32-unique : Determined 0 multiply-add-32-kinds.ps multiply-add-32-kinds.r multiply-add-32-reads.requires multiply-add-32-reads.Post
-multiply-add-32-unique = by-value (λ κs a. no-requires) (λ κs a v w. refl)
-
-pub multiply-subtract-32-unique :
-    Determined 0 multiply-subtract-32-kinds.ps multiply-subtract-32-kinds.r multiply-subtract-32-reads.requires multiply-subtract-32-reads.Post
-multiply-subtract-32-unique = by-value (λ κs a. no-requires) (λ κs a v w. refl)
+pub multiply-32-unique : Determined 0 multiply-32-kinds.ps multiply-32-kinds.r multiply-32-reads.requires multiply-32-reads.Post
+multiply-32-unique = by-value (λ κs a. no-requires) (λ κs a v w. refl)
 
 pub add-clamped-unique : Determined 0 add-clamped-kinds.ps add-clamped-kinds.r add-clamped-reads.requires add-clamped-reads.Post
 add-clamped-unique = by-value (λ κs a. no-requires) (λ κs a v w. refl)

@@ -1,14 +1,13 @@
 -- The laws of unsigned numbers, once over the width k: moved bits fit; ones are counted; bits are rotated.
 -- Assumes nothing.
 use Prim.Native.Nat.{ℕ, zero, suc, _+_, _-_, _*_, _/_, _%_, _^_, _<_, _≤_}
-use mathlib.Core.Path.{_≡_, sym, ap, _∙_}
+use mathlib.Core.Path.{_≡_, ap, ap₂, _∙_, subst}
 use native.Mathlib.Omega.{arith}
-use native.Mathlib.Nat.{lt-of-le-of-lt, pow-suc, add-mul, mul-assoc, add-assoc, mod-lt, mul-comm}
+use native.Mathlib.Nat.{lt-of-le-of-lt, sub-zero, mul-one, pow-zero, pow-suc, div-one, mod-one, mod-self, mod-eq-of-lt, mul-mod-left}
+use lib.Bits.{bitOr, or-self, or-shifted-r}
 use lib.Count.{ones, onesIn, ones-step}
-use lib.Pow.{pow-pos, pow-add, split, high, low, shl-lt, shr-le}
-use Rattle.register.specs.Halves.{join}
+use lib.Pow.{mod-pow-add, shl-lt, shl-shr, shr-le, shr-lt}
 use Rattle.alu_rules.specs.Width.{rotatedRight}
-use Rattle.alu_rules.proofs.Bits.{rotated-lt}
 
 -- a number of k bits moved right has k bits, also as the high half of k + k
 pub moved-lt : (k n : ℕ) {x : ℕ} → x < 2 ^ k → x / 2 ^ n < 2 ^ k
@@ -25,25 +24,21 @@ all-ones-in zero x h =
     rw z
 all-ones-in (suc k) x h = ones-step x ∙ ap (λ (n : ℕ). x % 2 + n) (all-ones-in k (x / 2) (omega (arith, pow-suc 2 k)))
 
--- two copies of x side by side, moved right by n places: the lower copy is x rotated. Here m is 2^n, p is 2^(k-n), and x is q * m + r
-copies : (x q r m p : ℕ) → x ≡ q * m + r → x * (p * m) + x ≡ (x * p + q) * m + r
-copies x q r m p e = ap (λ (n : ℕ). x * (p * m) + n) e ∙ simp (add-mul, mul-assoc, add-assoc)
+-- ---- k bits rotated by two shifts
 
-crossing : (x q r m p : ℕ) → x ≡ q * m + r → x * p + q ≡ q * (m * p) + (r * p + q)
-crossing x q r m p e = ap (λ (n : ℕ). n * p + q) e ∙ simp (add-mul, mul-assoc, add-assoc)
-
-pub rotated-by-copies : (k x n : ℕ) → n ≤ k → x < 2 ^ k → join k x x / 2 ^ n % 2 ^ k ≡ rotatedRight k n x
-rotated-by-copies k x n h l =
-    let m = 2 ^ n in
+-- moved left by all but n of k places, x has its n low bits left
+moved-left : (k n x : ℕ) → n ≤ k → x * 2 ^ (k - n) % 2 ^ k ≡ x % 2 ^ n * 2 ^ (k - n)
+moved-left k n x h =
     let p = 2 ^ (k - n) in
-    let q = x / 2 ^ n in
-    let r = x % 2 ^ n in
-    let t : k ≡ k - n + n = omega arith in
-    let e : 2 ^ k ≡ p * m = ap (λ (j : ℕ). 2 ^ j) t ∙ pow-add 2 (k - n) n in
-    let f : m * p ≡ 2 ^ k = mul-comm m p ∙ sym e in
-    let d : x ≡ q * m + r = sym (split x n) in
-    let b : r < m = mod-lt x (pow-pos n) in
-    let s : join k x x ≡ (x * p + q) * m + r = ap (λ (y : ℕ). x * y + x) e ∙ copies x q r m p d in
-    let u : x * p + q ≡ q * 2 ^ k + (r * p + q) = crossing x q r m p d ∙ ap (λ (y : ℕ). q * y + (r * p + q)) f in
-    ap (λ (y : ℕ). y / m % 2 ^ k) s ∙ ap (λ (y : ℕ). y % 2 ^ k) (high (x * p + q) n b ∙ u)
-    ∙ low q k (rotated-lt k n x h l)
+    let t : k ≡ n + (k - n) = omega arith in
+    ap (λ (j : ℕ). x * p % 2 ^ j) t ∙ mod-pow-add (x * p) n (k - n)
+    ∙ ap₂ (λ (a b : ℕ). a % 2 ^ n * p + b) (shl-shr x (k - n)) (mul-mod-left x p) ∙ omega arith
+
+-- by 0 places both shifts leave x as it is
+pub rotated-by-shifts : (k n x : ℕ) → n < k → x < 2 ^ k → bitOr (x / 2 ^ n) (x * 2 ^ ((k - n) % k) % 2 ^ k) ≡ rotatedRight k n x
+rotated-by-shifts k zero x h l = simp (sub-zero, mod-self, pow-zero, mul-one, div-one, mod-one, mod-eq-of-lt l, or-self) (omega arith)
+rotated-by-shifts k (suc n) x h l =
+    let t : k ≡ k - suc n + suc n = omega arith in
+    ap (λ (m : ℕ). bitOr (x / 2 ^ suc n) (x * 2 ^ m % 2 ^ k)) (mod-eq-of-lt (omega arith))
+    ∙ ap (bitOr (x / 2 ^ suc n)) (moved-left k (suc n) x (omega arith))
+    ∙ or-shifted-r (x % 2 ^ suc n) (k - suc n) (x / 2 ^ suc n) (shr-lt (k - suc n) (suc n) (subst (λ (j : ℕ). x < 2 ^ j) t l))

@@ -1,19 +1,25 @@
 -- What the private functions of the crate promise each other. No public contract names anything here.
 -- Assumes nothing.
-use Prim.Native.Nat.{ℕ, _+_, _-_, _^_}
-use mathlib.Core.Bool.{Bool, cond}
-use lib.Bits.{bitXor}
-use lib.Dec.{ltb}
-use lib.IntN.{ℤ, pos, negℤ}
+use Prim.Native.Nat.{ℕ}
+use mathlib.Core.Path.{_≡_}
+use mathlib.Core.Bool.{Bool, cond, not, _&&_, _||_, Bool·beq}
+use lib.IntN.{ℤ, _+ℤ_, _-ℤ_}
+use lib.Signed.{ltZ}
+use Rattle.alu_rules.specs.Width.{signed, least, greatest, clamped}
 
--- a sign and a size as an exact integer
-abbrev pub withSign : Bool → ℕ → ℤ
-withSign negative size = cond negative (negℤ (pos size)) (pos size)
+-- x + y, or x - y, of the signed numbers that k bits say
+abbrev pub exactSum : ℕ → Bool → ℕ → ℕ → ℤ
+exactSum k minus x y = cond minus (signed k x -ℤ signed k y) (signed k x +ℤ signed k y)
 
--- x with the top one of its k bits turned: the signed number that x says, plus 2^(k-1)
-unfoldable pub turned : ℕ → ℕ → ℕ
-turned k x = bitXor x (2 ^ (k - 1))
+-- whether z is no signed number of k bits
+abbrev pub isBeyond : ℕ → ℤ → Bool
+isBeyond k z = ltZ z (least k) || ltZ (greatest k) z
 
--- u + m, and all k ones where that is over
-unfoldable pub raised : ℕ → ℕ → ℕ → ℕ
-raised k u m = cond (ltb (u + m) (2 ^ k)) (u + m) (2 ^ k - 1)
+-- z clamped, and whether that changed it
+pub record Clamps (k : ℕ) (z : ℤ) (value : ℕ) (beyond : Bool) : Type 0 where
+  pub value-clamped : value ≡ clamped k z
+  pub beyond-told : beyond ≡ isBeyond k z
+
+-- whether two numbers have one sign and their sum has the other
+unfoldable pub signLost : Bool → Bool → Bool → Bool
+signLost x y sum = Bool·beq x y && not (Bool·beq x sum)

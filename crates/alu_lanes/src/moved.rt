@@ -11,11 +11,10 @@ pub fn shift_halfwords_right(w: u32, by: u32) -> u32
     ((w / 0x1_0000) >> places) * 0x1_0000 + ((w % 0x1_0000) >> places)
 }
 
-// ROTW. Two copies of the word side by side: what leaves the upper one on the right is what comes into the lower one on the left.
+// ROTW: what leaves on the right comes in on the left. By 0 places nothing leaves, and the word stands in both parts.
 pub fn rotate_right(w: u32, by: u32) -> u32
     ensures { λ r. ⌜ r ≡ ROTW w by ⌝ }
 {
     let places = by % 32;
-    let copies = (w as u64) * 0x1_0000_0000 + (w as u64);
-    ((copies >> places) % 0x1_0000_0000) as u32
+    (w >> places) | (w << ((32 - places) % 32))
 }

@@ -4,12 +4,12 @@ ghost use mathlib.Core.Path.{_≡_};
 ghost use lib.Signed.{ltZ};
 ghost use Rattle.alu_rules.specs.Width.{signed};
 ghost use Rattle.alu_rules.specs.Lane.{MAXWS, MINWS};
-use crate::sign::turn;
 
+// With the top bit turned a signed number is in order among the unsigned ones.
 fn less(a: u32, b: u32) -> bool
     ensures { λ r. ⌜ r ≡ ltZ (signed 32 a) (signed 32 b) ⌝ }
 {
-    turn(32, a as u64) < turn(32, b as u64)
+    (a ^ 0x8000_0000) < (b ^ 0x8000_0000)
 }
 
 // MAXWS.

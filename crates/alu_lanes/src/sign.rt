@@ -1,89 +1,122 @@
-// Signed numbers of any width up to 64 bits, in unsigned arithmetic. The width is a parameter, so that everything common to 16, 32 and 64 bits
-// is written and proved once; it is a constant wherever it is called, and folds away.
+// Signed sums and products, in unsigned numbers of the lane's own width. There is a function for each width, since one in 64 bits that takes the width
+// as a parameter takes four times as long; what they promise and the laws of their proofs are over the width, and there once.
 
 ghost use mathlib.Core.Path.{_≡_};
-ghost use Prim.Native.Nat.{_-_, _≤_, _<_, _^_};
-ghost use lib.IntN.{_+ℤ_, _*ℤ_};
-ghost use Rattle.alu_rules.specs.Width.{signed, clamped};
-ghost use Rattle.alu_lanes.specs.Sign.{withSign, turned, raised};
+ghost use mathlib.Core.Bool.{cond};
+ghost use lib.IntN.{_*ℤ_};
+ghost use Rattle.alu_rules.specs.Width.{signed};
+ghost use Rattle.alu_lanes.specs.Sign.{exactSum, Clamps, signLost};
 
-// An exact integer, by its sign and its size.
-pub struct SignAndSize {
-    pub negative: bool,
-    pub size: u64,
+// A sum clamped to 16 bits, and whether the exact one was beyond them.
+pub struct Clamped16 {
+    pub value: u16,
+    pub beyond: bool,
 }
 
-fn top_bit(width: u32) -> u64
-    requires { ⌜ (0 < width) × (width ≤ 64) ⌝ }
-    ensures { λ r. ⌜ r ≡ 2 ^ (width - 1) ⌝ }
-{
-    1u64 << (width - 1)
+// The same at 32 bits.
+pub struct Clamped32 {
+    pub value: u32,
+    pub beyond: bool,
 }
 
-// With its top bit turned a signed number is in order among the unsigned ones, and the signed clamp is the unsigned one.
-pub(crate) fn turn(width: u32, x: u64) -> u64
-    requires { ⌜ (0 < width) × (width ≤ 64) × (x < 2 ^ width) ⌝ }
-    ensures { λ r. ⌜ (r ≡ turned width x) × (r < 2 ^ width) ⌝ }
-{
-    x ^ top_bit(width)
+// The same at 64 bits.
+pub struct Clamped64 {
+    pub value: u64,
+    pub beyond: bool,
 }
 
-fn lower(u: u64, size: u64) -> u64
-    ensures { λ r. ⌜ r ≡ u - size ⌝ }
+// Both values are there and one is taken, so that no jump is needed.
+fn pick_16(yes: bool, a: u16, b: u16) -> u16
+    ensures { λ r. ⌜ r ≡ cond yes a b ⌝ }
 {
-    if size <= u { u - size } else { 0 }
+    if yes { a } else { b }
 }
 
-fn raise(width: u32, u: u64, size: u64) -> u64
-    requires { ⌜ (0 < width) × (width ≤ 64) × (u < 2 ^ width) ⌝ }
-    ensures { λ r. ⌜ (r ≡ raised width u size) × (r < 2 ^ width) ⌝ }
+fn pick_32(yes: bool, a: u32, b: u32) -> u32
+    ensures { λ r. ⌜ r ≡ cond yes a b ⌝ }
 {
-    let top = top_bit(width);
-    let most = top - 1 + top;
-    if size <= most - u { u + size } else { most }
+    if yes { a } else { b }
 }
 
-// Both directions are computed, and one is taken.
-pub(crate) fn clamped_sum(width: u32, x: u64, negative: bool, size: u64) -> u64
-    requires { ⌜ (0 < width) × (width ≤ 64) × (x < 2 ^ width) ⌝ }
-    ensures { λ r. ⌜ (r ≡ clamped width (signed width x +ℤ withSign negative size)) × (r < 2 ^ width) ⌝ }
+fn pick_64(yes: bool, a: u64, b: u64) -> u64
+    ensures { λ r. ⌜ r ≡ cond yes a b ⌝ }
 {
-    let u = turn(width, x);
-    let down = lower(u, size);
-    let up = raise(width, u, size);
-    if negative {
-        turn(width, down)
-    } else {
-        turn(width, up)
+    if yes { a } else { b }
+}
+
+// Of two numbers and their wrapped sum, whether each is below its top bit, and so not negative. The exact sum is beyond the width exactly where both
+// numbers have one sign and the wrapped sum has the other.
+fn sign_lost(x: bool, y: bool, sum: bool) -> bool
+    ensures { λ r. ⌜ r ≡ signLost x y sum ⌝ }
+{
+    x == y && x != sum
+}
+
+// x + y, or x - y: in two's complement -y is z + 1, where z has every bit of y turned.
+pub(crate) fn clamped_sum_16(minus: bool, x: u16, y: u16) -> Clamped16
+    ensures { λ r. ⌜ Clamps 16 (exactSum 16 minus x y) (r .value) (r .beyond) ⌝ }
+{
+    let z = pick_16(minus, 0xFFFF - y, y);
+    let carry = pick_16(minus, 1, 0);
+    let sum = std::num::wrapping_add_u16(std::num::wrapping_add_u16(x, z), carry);
+    let low = x < 0x8000;
+    let limit = pick_16(low, 0x7FFF, 0x8000);
+    let beyond = sign_lost(low, z < 0x8000, sum < 0x8000);
+    Clamped16 {
+        value: pick_16(beyond, limit, sum),
+        beyond,
     }
 }
 
-pub(crate) fn sign_and_size(width: u32, x: u64) -> SignAndSize
-    requires { ⌜ (0 < width) × (width ≤ 64) × (x < 2 ^ width) ⌝ }
-    ensures { λ r. ⌜ (withSign (r .negative) (r .size) ≡ signed width x) × (r .size ≤ 2 ^ (width - 1)) ⌝ }
+pub(crate) fn clamped_sum_32(minus: bool, x: u32, y: u32) -> Clamped32
+    ensures { λ r. ⌜ Clamps 32 (exactSum 32 minus x y) (r .value) (r .beyond) ⌝ }
 {
-    let top = top_bit(width);
-    if x < top {
-        SignAndSize {
-            negative: false,
-            size: x,
-        }
-    } else {
-        SignAndSize {
-            negative: true,
-            size: top - (x - top),
-        }
+    let z = pick_32(minus, 0xFFFF_FFFF - y, y);
+    let carry = pick_32(minus, 1, 0);
+    let sum = std::num::wrapping_add_u32(std::num::wrapping_add_u32(x, z), carry);
+    let low = x < 0x8000_0000;
+    let limit = pick_32(low, 0x7FFF_FFFF, 0x8000_0000);
+    let beyond = sign_lost(low, z < 0x8000_0000, sum < 0x8000_0000);
+    Clamped32 {
+        value: pick_32(beyond, limit, sum),
+        beyond,
     }
 }
 
-pub(crate) fn product(width: u32, a: u64, b: u64) -> SignAndSize
-    requires { ⌜ (0 < width) × (width ≤ 32) × (a < 2 ^ width) × (b < 2 ^ width) ⌝ }
-    ensures { λ r. ⌜ withSign (r .negative) (r .size) ≡ signed width a *ℤ signed width b ⌝ }
+pub(crate) fn clamped_sum_64(minus: bool, x: u64, y: u64) -> Clamped64
+    ensures { λ r. ⌜ Clamps 64 (exactSum 64 minus x y) (r .value) (r .beyond) ⌝ }
 {
-    let x = sign_and_size(width, a);
-    let y = sign_and_size(width, b);
-    SignAndSize {
-        negative: x.negative != y.negative,
-        size: x.size * y.size,
+    let z = pick_64(minus, 0xFFFF_FFFF_FFFF_FFFF - y, y);
+    let carry = pick_64(minus, 1, 0);
+    let sum = std::num::wrapping_add_u64(std::num::wrapping_add_u64(x, z), carry);
+    let low = x < 0x8000_0000_0000_0000;
+    let limit = pick_64(low, 0x7FFF_FFFF_FFFF_FFFF, 0x8000_0000_0000_0000);
+    let beyond = sign_lost(low, z < 0x8000_0000_0000_0000, sum < 0x8000_0000_0000_0000);
+    Clamped64 {
+        value: pick_64(beyond, limit, sum),
+        beyond,
     }
+}
+
+// The signed product, wrapped. With its top bit turned a number is h = 2^15 more than the signed one, and (x - h)(y - h) is xy + hh - (x + y)h.
+pub(crate) fn product_16(a: u16, b: u16) -> u32
+    ensures { λ r. ⌜ signed 32 r ≡ signed 16 a *ℤ signed 16 b ⌝ }
+{
+    let x = (a as u32) ^ 0x8000;
+    let y = (b as u32) ^ 0x8000;
+    std::num::wrapping_sub_u32(
+        std::num::wrapping_add_u32(x * y, 0x4000_0000),
+        (x + y) * 0x8000,
+    )
+}
+
+pub(crate) fn product_32(a: u32, b: u32) -> u64
+    ensures { λ r. ⌜ signed 64 r ≡ signed 32 a *ℤ signed 32 b ⌝ }
+{
+    let x = (a as u64) ^ 0x8000_0000;
+    let y = (b as u64) ^ 0x8000_0000;
+    std::num::wrapping_sub_u64(
+        std::num::wrapping_add_u64(x * y, 0x4000_0000_0000_0000),
+        (x + y) * 0x8000_0000,
+    )
 }

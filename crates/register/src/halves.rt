@@ -1,5 +1,6 @@
 // The halves of a word, and words and longs put together from halves.
 
+ghost use mathlib.Core.Bool.{cond};
 ghost use mathlib.Core.Path.{_≡_};
 ghost use Prim.Native.Nat.{_<_};
 ghost use Rattle.register.specs.Halves.{half, join};
@@ -30,16 +31,19 @@ pub fn join_words(hi: u32, lo: u32) -> u64
     (hi as u64) * 0x1_0000_0000 + (lo as u64)
 }
 
+// Both values are there and one is taken, so that no jump is needed.
+fn pick(yes: bool, a: u16, b: u16) -> u16
+    ensures { λ r. ⌜ r ≡ cond yes a b ⌝ }
+{
+    if yes { a } else { b }
+}
+
 // The word of halfwords k and k + 1, with halfword i of the register set to v.
 pub(crate) fn put_half(w: u32, k: usize, i: usize, v: u16) -> u32
     requires { ⌜ k < 8 ⌝ }
     ensures { λ r. ⌜ r ≡ withHalf i v k w ⌝ }
 {
-    if i == k {
-        return join_halfwords(half_of_word(w, true), v);
-    }
-    if i == k + 1 {
-        return join_halfwords(v, half_of_word(w, false));
-    }
-    w
+    let hi = pick(i == k + 1, v, half_of_word(w, true));
+    let lo = pick(i == k, v, half_of_word(w, false));
+    join_halfwords(hi, lo)
 }

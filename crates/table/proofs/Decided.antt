@@ -91,6 +91,9 @@ pub neither-held : (a b : Bool) → (a || b) ≡ false → (a ≡ false) × (b �
 neither-held true b e = absurd (true≢false e)
 neither-held false b e = (refl, e)
 
+pub none-held : (a b c : Bool) → (a || b || c) ≡ false → (a ≡ false) × (b ≡ false) × (c ≡ false)
+none-held a b c e = let s = neither-held (a || b) c e in let t = neither-held a b (s .0) in (t .0, t .1, s .1)
+
 -- a test that a function answered, as it came out
 pub came-true : {t b : Bool} → t ≡ b → t ≡ true → b ≡ true
 came-true e h = sym e ∙ h

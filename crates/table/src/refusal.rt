@@ -55,7 +55,8 @@ fn searched(words: &[u32]) -> usize
     i
 }
 
-// The place of the first word of 2^25 or more, or the number of words where there is none. That there is none, as in most programs, is found by one test for all words.
+// The place of the first word of 2^25 or more, or the number of words where there is none. That there is none, as in most programs, is found by one test for
+// all words.
 pub fn first_bad(words: &[u32]) -> usize
     ensures { λ r. ⌜ r ≡ firstBad (now (words .entry)) ⌝ }
 {

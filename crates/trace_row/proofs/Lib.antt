@@ -1,2 +1,3 @@
+pub mod RowShown
 pub mod CycleWithRow
 pub mod Unique

@@ -1,9 +1,13 @@
 // What the row of a cycle says.
 
 ghost use mathlib.Core.Path.{_≡_};
+ghost use mathlib.Core.Bool.{false, _||_};
+ghost use Rattle.register.specs.Layout.{zeroRegister};
 ghost use Rattle.unit_rules.specs.Cycle.{isTarget};
+ghost use Rattle.unit_rules.specs.Stages.{decodedWith};
 ghost use Rattle.trace_rules.specs.RowOfCycle.{stageOf, readsRs1, writesTo, flagOf, flagsFor, flagsOf, changeTo, changeOf, shownBy};
 use alu_rules::Outcome;
+use register::Register;
 use row_rules::Change;
 use row_rules::Flags;
 use row_rules::Row;
@@ -15,7 +19,6 @@ use table::operands;
 use unit_record::latches::in_decoded;
 use unit_record::latches::in_executed;
 use unit_rules::ExWb;
-use unit_rules::IdEx;
 use unit_rules::IfId;
 use unit_rules::InFlight;
 use unit_rules::Instruction;
@@ -73,7 +76,15 @@ fn flag(reads: bool, wb: ExWb, p: Pointer) -> bool
     false
 }
 
-fn flags_for(wb: ExWb, i: Instruction) -> Flags
+// Whether WB writes a register that a field of the instruction names, read or not.
+fn names_written(wb: ExWb, i: Instruction) -> bool
+    ensures { λ r. ⌜ r ≡ (writesTo wb (i .first) || writesTo wb (i .second) || writesTo wb (i .third)) ⌝ }
+{
+    writes_to(wb, i.first) || writes_to(wb, i.second) || writes_to(wb, i.third)
+}
+
+// What the table says is read decides.
+fn flags_by_table(wb: ExWb, i: Instruction) -> Flags
     ensures { λ r. ⌜ r ≡ flagsFor wb i ⌝ }
 {
     let reads = operands::reads(i.word);
@@ -84,25 +95,52 @@ fn flags_for(wb: ExWb, i: Instruction) -> Flags
     }
 }
 
-fn flags(wb: ExWb, ex: IdEx) -> Flags
-    ensures { λ r. ⌜ r ≡ flagsOf wb ex ⌝ }
+fn no_flags() -> Flags
+    ensures { λ r. ⌜ r ≡ record { rs1 = false; rs2 = false; rs3 = false } ⌝ }
 {
-    match ex {
-        IdEx::Empty => Flags {
-            rs1: false,
-            rs2: false,
-            rs3: false,
-        },
-        IdEx::Holds(i, _) => flags_for(wb, i),
+    Flags {
+        rs1: false,
+        rs2: false,
+        rs3: false,
     }
 }
 
+// The table is asked only where WB writes a register that the instruction could read.
+fn flags_for(wb: ExWb, i: Instruction) -> Flags
+    ensures { λ r. ⌜ r ≡ flagsFor wb i ⌝ }
+{
+    if !names_written(wb, i) {
+        return no_flags();
+    }
+    flags_by_table(wb, i)
+}
+
+fn flags(wb: ExWb, ex: IfId) -> Flags
+    ensures { λ r. ⌜ r ≡ flagsOf wb (decodedWith ex (record { first = zeroRegister; second = zeroRegister; third = zeroRegister })) ⌝ }
+{
+    match ex {
+        IfId::Empty => no_flags(),
+        IfId::Holds(i) => flags_for(wb, i),
+    }
+}
+
+// The outcome is put together field by field: handed on whole, it is moved through memory in other pieces than those in which it is read, and each row waits
+// for that.
 fn change_to(target: Target, outcome: Outcome) -> Change
     ensures { λ r. ⌜ r ≡ changeTo target outcome ⌝ }
 {
     match target {
         Target::None => Change::Nothing,
-        Target::To(p) => Change::To(p, outcome),
+        Target::To(p) => {
+            let v = outcome.value;
+            let value = Register {
+                w0: v.w0,
+                w1: v.w1,
+                w2: v.w2,
+                w3: v.w3,
+            };
+            Change::To(p, Outcome { value })
+        }
     }
 }
 
@@ -118,6 +156,28 @@ fn change(latch: ExWb) -> Change
     }
 }
 
+// The row of a cycle, from its number, what IF delivers in it and what the latches hold at its start, ID/EX without its values: a row shows nothing of them, and
+// in the contract zeros stand for them.
+pub fn row_of_stages(
+    cycle: u32,
+    delivered: IfId,
+    fetched: IfId,
+    decoding: IfId,
+    executed: ExWb,
+) -> Row
+    ensures { λ r. ⌜ r ≡ shownBy cycle delivered fetched (decodedWith decoding (record { first = zeroRegister; second = zeroRegister; third = zeroRegister })) executed ⌝ }
+{
+    Row {
+        cycle,
+        fetch: stage(delivered),
+        decode: stage(fetched),
+        execute: stage(decoding),
+        write: stage(in_executed(executed)),
+        flags: flags(executed, decoding),
+        change: change(executed),
+    }
+}
+
 // The row of a cycle, from its number, what was in flight at its start and what IF delivers in it.
 pub fn row_of_cycle(cycle: u32, flight: InFlight, delivered: IfId) -> Row
     ensures { λ r. ⌜ r ≡ shownBy cycle delivered (flight .fetched) (flight .decoded) (flight .executed) ⌝ }
@@ -125,13 +185,5 @@ pub fn row_of_cycle(cycle: u32, flight: InFlight, delivered: IfId) -> Row
     let fetched = flight.fetched;
     let decoded = flight.decoded;
     let executed = flight.executed;
-    Row {
-        cycle,
-        fetch: stage(delivered),
-        decode: stage(fetched),
-        execute: stage(in_decoded(decoded)),
-        write: stage(in_executed(executed)),
-        flags: flags(executed, decoded),
-        change: change(executed),
-    }
+    row_of_stages(cycle, delivered, fetched, in_decoded(decoded), executed)
 }

@@ -4,7 +4,7 @@ use Rattle.unit_rules.proofs.Shared.{ℕ, zero, suc, _+_, _-_, _<_, _≤_, _≡
 use Rattle.unit_rules.proofs.Shared.{and-false, List, map, arith, leb-false, lt-ltb, lt-leb, ltb, length, take, DRAINED, ROOM, Register, Pointer, Target, None, isLi}
 use Rattle.unit_rules.proofs.Shared.{rdOf, firstOf, rs2Of, rs3Of, Operation, operationOf, readsOf, takesSecond, takesThird, isNop, targetOf, stored}
 use Rattle.unit_rules.proofs.Shared.{plain, instructionsAt, readOf, linesOf, instructionOf, instructionAt, fetchedIn, isTarget, afterWB, cycleOf, inDecoded}
-use Rattle.unit_rules.proofs.Shared.{inExecuted, lastOf, drainedOf, wellMadeOf, registersSet, startOf, cycledOf, Whole, afterCalls}
+use Rattle.unit_rules.proofs.Shared.{inExecuted, decodedWith, lastOf, drainedOf, wellMadeOf, registersSet, startOf, cycledOf, Whole, afterCalls}
 use Rattle.table.specs.declared.Target.the-variants.{To as ToRegister}
 use Rattle.table.specs.Operation.{multiplyRow, shortRows}
 use Rattle.table.proofs.Rows.{each-choice}
@@ -18,6 +18,7 @@ use Rattle.row_rules.specs.declared.Change.{Change}
 use Rattle.row_rules.specs.declared.Change.the-variants.{Nothing}
 use Rattle.row_rules.specs.Text.{rowSize}
 use Rattle.unit_rules.specs.declared.Instruction.{Instruction}
+use Rattle.unit_rules.specs.declared.Operands.{Operands}
 use Rattle.unit_rules.specs.declared.IfId.{IfId}
 use Rattle.unit_rules.specs.declared.IfId.the-variants as IF/ID
 use Rattle.unit_rules.specs.declared.IdEx.{IdEx}
@@ -58,6 +59,13 @@ row-stages u made =
       ap stageOf (h .in-ID/EX) ∙ ap fetched two-ago,
       ap stageOf (h .in-EX/WB) ∙ ap fetched three-ago,
     )
+
+-- nothing of the values that ID has read is shown: any others could stand in their place
+pub no-value-shown : (cycle : ℕ) (delivered fetched : IfId) (decoded : IdEx) (executed : ExWb) (o : Operands)
+    → shownBy cycle delivered fetched (decodedWith (inDecoded decoded) o) executed ≡ shownBy cycle delivered fetched decoded executed
+unfolding shownBy
+no-value-shown cycle delivered fetched ID/EX.Empty executed o = refl
+no-value-shown cycle delivered fetched (ID/EX.Holds i p) executed o = refl
 
 -- "cycle (two decimal digits, 67 at most)"
 pub row-cycle : (u : Unit) → cycledOf u .refusal ≡ 0 → shownOf u .cycle ≤ 67

@@ -1,22 +1,26 @@
 -- A turn of the loop over rows: the row that it shows is that of the unit after the cycles made so far, and stands behind the rows before it. Carried
--- by `deliver` of crate `unit_rules` and `row-fits` of crate `row_rules`.
+-- by `deliver` of crate `unit_rules`, `no-value-shown` of crate `trace_rules` and `row-fits` of crate `row_rules`.
 -- Assumes nothing.
 use Rattle.trace_rules.proofs.Shared.{atFront, fromStart, then-from, at-end, rowText, rowSize, rowAt, row-fits, Unit, shownBy, shownOf, rowsOf}
 use Rattle.unit_rules.proofs.Shared.{ℕ, _+_, _*_, _%_, _≤_, _≡_, sym, ap, _∙_, List, add-assoc, add-one, length, getD, Register, cyclesOf}
-use Rattle.unit_rules.proofs.Shared.{deliveredOf, unitWith}
+use Rattle.unit_rules.proofs.Shared.{inDecoded, decodedWith, deliveredOf, unitWith}
 use Rattle.row_rules.specs.declared.Row.{Row}
 use Rattle.unit_rules.specs.declared.IfId.{IfId}
 use Rattle.unit_rules.specs.declared.InFlight.{InFlight}
+use Rattle.unit_rules.specs.declared.Operands.{Operands}
 use Rattle.unit_rules.proofs.OneCycle.{deliver}
+use Rattle.trace_rules.proofs.Theorems.{no-value-shown}
 use Rattle.trace_rules.proofs.TextLengths.{rows-long}
 
-module _ (i : ℕ) (u : Unit) {f : List Register} {l : InFlight} {delivered : IfId} {row : Row} (few : u .program .n .0 ≤ 64)
+module _ (i : ℕ) (u : Unit) {f : List Register} {l : InFlight} {delivered held : IfId} {row : Row} (few : u .program .n .0 ≤ 64)
     (so-far : unitWith u i f l ≡ cyclesOf i u)
     (fetched : delivered ≡ deliveredOf (u .program .n) (l .count) (getD (u .program .words) (l .count .0 % 64) 0))
-    (shown : row ≡ shownBy (u .cycle + (i + 1)) delivered (l .fetched) (l .decoded) (l .executed)) where
+    (in-ID/EX : held ≡ inDecoded (l .decoded)) (o : Operands)
+    (shown : row ≡ shownBy (u .cycle + (i + 1)) delivered (l .fetched) (decodedWith held o) (l .executed)) where
   its-row : row ≡ shownOf (cyclesOf i u)
   its-row =
-      shown ∙ rw (fetched, deliver (u .program) (l .count) few, ← (add-assoc (u .cycle) i 1)) (ap shownOf so-far)
+      (rw in-ID/EX at shown) ∙ no-value-shown _ _ _ (l .decoded) _ o
+      ∙ rw (fetched, deliver (u .program) (l .count) few, ← (add-assoc (u .cycle) i 1)) (ap shownOf so-far)
 
   pub row-more : (old out : List ℕ) {number : ℕ} {new : List ℕ} → rowSize * i + rowSize ≤ length out
       → out ≡ atFront (rowsOf i u) old → (number, new) ≡ rowAt row (rowSize * i) out → new ≡ atFront (rowsOf (i + 1) u) old

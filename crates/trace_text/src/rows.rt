@@ -10,7 +10,8 @@ ghost use Rattle.unit_rules.specs.Record.{lastOf, wellMadeOf};
 ghost use Rattle.trace_rules.specs.JobText.{rowsOf};
 use row::ROW_SIZE;
 use row::write_row;
-use trace_row::shown::row_of_cycle;
+use trace_row::shown::row_of_stages;
+use unit_record::latches::in_decoded;
 use unit_rules::Operands;
 use unit_rules::Unit;
 use unit_stages::advanced;
@@ -50,7 +51,9 @@ pub(crate) fn put_rows(out: &mut [u8], u: Unit, m: u32)
         let here = (flight.count.0 % 64) as usize;
         let next = advanced(n, flight, write, read, words[here]);
         let delivered = next.fetched;
-        let row = row_of_cycle(u.cycle + made, flight, delivered);
+        let decoding = flight.decoded;
+        let held = in_decoded(decoding);
+        let row = row_of_stages(u.cycle + made, delivered, fetched, held, executed);
         write_row(out, start, row);
         flight = next;
     }

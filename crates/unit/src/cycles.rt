@@ -7,7 +7,10 @@ ghost use Rattle.unit_rules.specs.Cycle.{cyclesOf};
 ghost use Rattle.unit_rules.specs.Record.{lastOf, wellMadeOf};
 ghost use Rattle.unit_rules.specs.Stages.{unitWith};
 use register::Register;
-use unit_rules::InFlight;
+use table::Count;
+use unit_rules::ExWb;
+use unit_rules::IdEx;
+use unit_rules::IfId;
 use unit_rules::Operands;
 use unit_rules::Unit;
 use unit_stages::decode;
@@ -16,15 +19,19 @@ use unit_stages::fetch;
 use unit_stages::write_back;
 
 // The unit put together again after so many cycles.
-pub(crate) fn reassembled(u: Unit, m: u32, registers: [Register; 32], flight: InFlight) -> Unit
+pub(crate) fn reassembled(
+    u: Unit,
+    m: u32,
+    registers: [Register; 32],
+    count: Count,
+    fetched: IfId,
+    decoded: IdEx,
+    executed: ExWb,
+) -> Unit
     requires { ⌜ u .cycle + m ≤ 67 ⌝ }
-    ensures { λ r. ⌜ r ≡ unitWith u m registers flight ⌝ }
+    ensures { λ r. ⌜ r ≡ unitWith u m registers (record { count = count; fetched = fetched; decoded = decoded; executed = executed }) ⌝ }
 {
     let program = u.program;
-    let count = flight.count;
-    let fetched = flight.fetched;
-    let decoded = flight.decoded;
-    let executed = flight.executed;
     Unit {
         program,
         count,
@@ -71,11 +78,5 @@ pub(crate) fn one_by_one(u: Unit, m: u32) -> Unit
         fetched = fetch::delivered(n, count, words[here]);
         count = fetch::next_count(n, count);
     }
-    let flight = InFlight {
-        count,
-        fetched,
-        decoded,
-        executed,
-    };
-    reassembled(u, m, registers, flight)
+    reassembled(u, m, registers, count, fetched, decoded, executed)
 }

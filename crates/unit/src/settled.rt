@@ -70,7 +70,11 @@ fn by_lines(u: Unit, m: u32) -> Unit
     let end = cycles_before(c, 3) as usize;
     let registers = execute_lines(&words[start..end], old);
     let flight = flight_at(&words, n, c, registers);
-    reassembled(u, m, registers, flight)
+    let count = flight.count;
+    let fetched = flight.fetched;
+    let decoded = flight.decoded;
+    let executed = flight.executed;
+    reassembled(u, m, registers, count, fetched, decoded, executed)
 }
 
 // So many cycles of a well-made unit. Before cycle 2 it has latched no value; later it is settled once two cycles are made, whatever values it has latched.

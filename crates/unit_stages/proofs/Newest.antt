@@ -6,7 +6,7 @@ use borrow.Author.Tests.{eq-eqb, ne-eqb}
 use lib.Dec.{eqb}
 use Rattle.register.specs.declared.Register.{Register}
 use Rattle.table.specs.declared.Pointer.{Pointer}
-use Rattle.table.proofs.Decided.{neither-held}
+use Rattle.table.proofs.Decided.{none-held}
 use Rattle.unit_rules.specs.declared.Instruction.{Instruction}
 use Rattle.unit_rules.specs.declared.Operands.{Operands}
 use Rattle.unit_rules.specs.declared.Write.{Write}
@@ -22,7 +22,7 @@ not-taken w p latched e f g = rw (e, f, ne-eqb _ _ g)
 
 each-not : (a x y z : Bool) → (a && (x || y || z)) ≡ false → ((a && x) ≡ false) × ((a && y) ≡ false) × ((a && z) ≡ false)
 each-not false x y z e = (refl, refl, refl)
-each-not true x y z e = let s = neither-held (x || y) z e in let t = neither-held x y (s .0) in (t .0, t .1, s .1)
+each-not true x y z e = none-held x y z e
 
 -- r is what the test of the three fields answered
 pub none-named : (w : Write) (i : Instruction) (o : Operands) {r : Bool}

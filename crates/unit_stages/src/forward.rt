@@ -73,7 +73,7 @@ fn names_written(write: Write, i: Instruction) -> bool
     write.writes && (at == i.first.0 || at == i.second.0 || at == i.third.0)
 }
 
-// By the table.
+// Each operand by the table of what is read.
 fn forwarded(write: Write, i: Instruction, o: Operands) -> Operands
     ensures { λ r. ⌜ r ≡ newestOperandsBy write i o ⌝ }
 {

@@ -5,7 +5,4 @@ use Rattle.alu_lanes.proofs.Signed as signed
 use Rattle.alu_lanes.proofs.ordered.less as this
 
 pub less-spec : {M : Type 1} → this.Statement.statement M
-less-spec =
-    this.Tie.close
-    (this.Tie.spec (λ c. search needs) (λ c. search needs)
-    (λ c. signed.order 32 (lit< tt) _ _ (search needs) (search needs) (c .before .turn .ensures .0) (c .turn2 .ensures .0)))
+less-spec = this.Tie.close (this.Tie.spec (λ c. signed.order 32 (lit< tt) _ _ (search needs) (search needs)))

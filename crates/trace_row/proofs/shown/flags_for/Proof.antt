@@ -1,18 +1,7 @@
--- Carried by the contract of `flag`, at what the table says is read.
+-- Carried by `none-raised`, where WB writes no register that a field names.
+use borrow.Author.Needs.{needs}
+use Rattle.trace_row.proofs.RowShown.{none-raised}
 use Rattle.trace_row.proofs.shown.flags_for as this
 
-returns : this.Tie.Need-returns
-returns c =
-    let first = c .before .before .before .before in
-    rw (
-      c .flag3 .ensures,
-      c .before .takes-third .ensures,
-      c .before .before .flag2 .ensures,
-      c .before .before .before .takes-second .ensures,
-      first .flag .ensures,
-      first .before .reads-rs1 .ensures,
-      first .before .before .reads .ensures,
-    )
-
 pub flags-for-spec : {M : Type 1} → this.Statement.statement M
-flags-for-spec = this.Tie.close (this.Tie.spec _ _ _ _ _ _ _ returns)
+flags-for-spec = this.Tie.close (this.Tie.spec _ _ (λ c. search none-raised) _ (λ c. search needs))

@@ -14,22 +14,22 @@ Inv-loop out₀ u m words n registers₀ flight₀ made₀ out registers flight 
 abbrev μ-loop : this.Tie.MeasureT-loop
 μ-loop out₀ u m words n registers₀ flight₀ made₀ out registers flight made = m - made
 
-add-row-of-cycle : this.Tie.Need-add-row-of-cycle Inv-loop μ-loop
-add-row-of-cycle c =
-    let test = c .before .before .before .before .before .before .before .before .before .before .before .before .before .before in
+add-row-of-stages : this.Tie.Need-add-row-of-stages Inv-loop μ-loop
+add-row-of-stages c =
+    let test = c .before .before .before .before .before .before .before .before .before .before .before .before .before .before .before in
     let inv = test .before .loop .inv in
     omega (arith, last-small _ (inv .0), inv .1, test .loop-test .taken)
 
 loop-less : this.Tie.Need-loop-less Inv-loop μ-loop
 loop-less c =
-    let read = c .before .before .before .before .before .before .before .before .before .before .before .before .before .before in
+    let read = c .before .before .before .before .before .before .before .before .before .before .before .before .before .before .before in
     let test = read .before .before .before .before .before in
     omega (arith, test .loop-test .taken)
 
 loop-again : this.Tie.Need-loop-again Inv-loop μ-loop
 loop-again c =
     let shown = c .before .before .before .before in
-    let advanced = shown .before .before in
+    let advanced = shown .before .before .before in
     let read = advanced .before .before .before .before .before .before .before .before in
     let written = read .before .before .before .before in
     let inv = written .before .before .loop .inv in
@@ -46,8 +46,8 @@ loop-again c =
           (⊎-elim (λ w. w .1 ∙ rw (w .0 .taken)) (λ w. w .1 ∙ rw (w .0 .left)) (read .before .if1 .came))
           (read .read-from .ensures)
           (advanced .advanced .ensures)),
-      row-more _ _ few (inv .5) (λ i. advanced .advanced .ensures i .fetched) (shown .row-of-cycle .ensures) _ _ (omega (arith, inv .2, inv .4, next))
-          (inv .6) (c .before .before .write-row .ensures),
+      row-more _ _ few (inv .5) (λ i. advanced .advanced .ensures i .fetched) (shown .before .before .in-decoded .ensures) _
+          (shown .row-of-stages .ensures) _ _ (omega (arith, inv .2, inv .4, next)) (inv .6) (c .before .before .write-row .ensures),
     )
 
 pub put-rows-spec : {M : Type 1} → this.Statement.statement M
@@ -57,5 +57,5 @@ put-rows-spec =
     (this.Tie.spec Inv-loop μ-loop _ (λ c. (search needs, search needs, search needs, omega arith, refl, search none-yet, refl)) (λ c. search needs)
     (λ c. search needs) (λ c. search needs) _ (λ c. search needs) (λ c. search needs) (λ c. search write-in-range) _ (λ c. search needs)
     (λ c. search needs) (λ c. search needs) (λ c. search needs) (λ c. search first-in-range) (λ c. search needs) (λ c. search second-in-range)
-    (λ c. search needs) (λ c. search third-in-range) (λ c. search needs) (λ c. search needs) (λ c. search needs) _ add-row-of-cycle _ _
+    (λ c. search needs) (λ c. search third-in-range) (λ c. search needs) (λ c. search needs) (λ c. search needs) _ _ add-row-of-stages _ _
     loop-less loop-again (λ c. search needs) (λ c. search rows-made))

@@ -17,13 +17,16 @@ part-execute-lines-end c = search (within, in-64-lines, needs)
 
 returns : this.Tie.Need-returns
 returns c =
-    let cut = c .before .before .before .before .before .before in
+    let executed = c .before .before .before .before in
+    let cut = executed .before .before .before in
     let start = cut .before .before .before .before .before .before in
     let u = start .args .u in
-    let enough : u .program .n .0 ≤ length (u .program .words) = within (u .program .words) (u .program .n .0) 64 (search (start .good .0 .1 .1, needs)) (well-made-says u (start .pre .1) .few) in
-    let whole : Whole (u .registers) = search (whole-field, start .good .0 .1 .1) in
+    let fields = start .good .0 .1 .1 in
+    let enough : u .program .n .0 ≤ length (u .program .words)
+    = within (u .program .words) (u .program .n .0) 64 (search (fields .0, needs)) (well-made-says u (start .pre .1) .few) in
+    let whole : Whole (u .registers) = search (whole-field, fields .1 .1 .1 .0) in
     by-lines u _ (start .pre .0) enough whole (start .pre .2) (cut .before .cycles-before .ensures) (cut .cycles-before2 .ensures)
-    (c .before .before .before .execute-lines .ensures) (c .before .flight-at .ensures) (c .reassembled .ensures)
+    (executed .execute-lines .ensures) (c .before .before .flight-at .ensures) (c .reassembled .ensures)
 
 pub by-lines-spec : {M : Type 1} → this.Statement.statement M
 by-lines-spec =
