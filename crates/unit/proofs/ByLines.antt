@@ -1,12 +1,12 @@
 -- Many cycles at once, by the lines that complete in them. Carried by `settled-on`, `settled-early` and `settled-in-two` of crate `unit_rules`.
 -- Assumes nothing.
 use Rattle.unit_rules.proofs.Shared.{ℕ, zero, suc, _+_, _-_, _≤_, _<_, _≡_, refl, sym, ap, subst, _∙_, true, List, [], _∷_, map, arith, length, take, drop, Register}
-use Rattle.unit_rules.proofs.Shared.{plain, cyclesOf, cond, Bool, false, eqb, lastOf, wellMadeOf, inFlightOf, unitWith, Whole}
+use Rattle.unit_rules.proofs.Shared.{plain, cyclesOf, cond, Bool, false, eqb, lastOf, wellMadeOf, unitWith, Whole}
 use lib.ListN.{length-map}
 use lib.Seq.{take-take}
 use Rattle.unit_rules.specs.declared.Unit.{Unit}
 use Rattle.unit_rules.specs.declared.InFlight.{InFlight}
-use Rattle.unit_rules.specs.Settled.{settledOf, Settled}
+use Rattle.unit_rules.specs.Settled.{settledFlight, Settled}
 use Rattle.unit_rules.proofs.Settled.{many, settled-on, settled-early, settled-in-two}
 use Rattle.unit_rules.proofs.WellMade.{well-made-says, last-small, well-made-test, well-made-cycles, cycles-join}
 use Rattle.unit_rules.proofs.Positions.{cycles-program, cycles-number}
@@ -42,15 +42,15 @@ module _ (u : Unit) (m : ℕ) (settled : Settled u) (enough : u .program .n .0 �
     (fits : u .cycle + m ≤ lastOf (u .program .n .0)) where
   pub by-lines : {start end : ℕ} → start ≡ u .cycle - 3 → end ≡ u .cycle + m - 3
       → {g : List Register} → g ≡ plain (take (end - start) (drop start (u .program .words))) (u .registers)
-      → {l : InFlight} → l ≡ inFlightOf (settledOf (u .program) (u .cycle + m) g)
+      → {l : InFlight} → l ≡ settledFlight (u .program) (u .cycle + m) g
       → {v : Unit} → v ≡ unitWith u m g l
       → v ≡ cyclesOf m u
   by-lines es ee eg el ev =
       let lines = lines-completed (u .program .n .0) (u .cycle + m) fits in
       let within = part (u .cycle - 3) (many (u .cycle) m) (u .program .n .0) (u .program .words) (omega arith) in
       let file = eg ∙ (λ i. plain (take (ee i - es i) (drop (es i) (u .program .words))) (u .registers)) ∙ ap (λ (l : List ℕ). plain l (u .registers)) (sym within) in
-      ev ∙ ap (unitWith u m _) el ∙ ap (settledOf (u .program) (u .cycle + m)) file
-      ∙ sym (ap (cyclesOf m) settled ∙ settled-on (u .program) enough (u .cycle) (u .registers) whole m)
+      ev ∙ ap (unitWith u m _) el ∙ ap (λ (g : List Register). unitWith u m g (settledFlight (u .program) (u .cycle + m) g)) file
+      ∙ sym (settled-on u settled whole enough m)
 
 -- ---- when a unit is settled
 

@@ -1,7 +1,8 @@
 -- Count and latches from a program, a cycle number and the registers: what is read and made in them is what a settled unit holds. Carried by the laws of the stages;
 -- the indices are in range because a latch holds a line of the program.
 -- Assumes nothing.
-use Rattle.unit_rules.proofs.Shared.{ℕ, _-_, _<_, min, _≡_, sym, ap, subst, _∙_, List, Register, fetchedIn, afterEX, afterID, writeOf, executedBy, sourcesOf, readAt, decodedWith, inFlightOf}
+use Rattle.unit_rules.proofs.Shared.{ℕ, _-_, _<_, min, _≡_, sym, ap, subst, _∙_, List, Register, fetchedIn, afterEX, afterID}
+use Rattle.unit_rules.proofs.Shared.{writeOf, executedBy, sourcesOf, readAt, decodedWith}
 use Rattle.table.specs.declared.Count.{Count}
 use Rattle.job_rules.specs.declared.Program.{Program}
 use Rattle.unit_rules.specs.declared.Operands.{Operands}
@@ -12,7 +13,7 @@ use Rattle.unit_rules.specs.declared.ExWb.the-variants as EX/WB
 use Rattle.unit_rules.specs.declared.InFlight.{InFlight}
 use Rattle.unit_rules.specs.declared.Sources.{Sources}
 use Rattle.unit_rules.specs.declared.Write.{Write}
-use Rattle.unit_rules.specs.Settled.{settledOf}
+use Rattle.unit_rules.specs.Settled.{settledFlight}
 use Rattle.unit_rules.proofs.OneCycle.{execute, decode}
 use Rattle.unit.proofs.Loop.{Small, small-fetched}
 
@@ -51,7 +52,7 @@ module _ (p : Program) (c : ℕ) (f : List Register) where
       → {n : Count} → n ≡ record { 0 = min c (p .n .0) } → {x : IfId} → x ≡ fetchedIn p c
       → {o : Operands} → o ≡ readAt (sourcesOf z) f → {d : IdEx} → d ≡ decodedWith z o
       → {w : Write} → w ≡ writeOf EX/WB.Empty → {e : ExWb} → e ≡ executedBy w b
-      → _≡_ {A = InFlight} (record { count = n; fetched = x; decoded = d; executed = e }) (inFlightOf (settledOf p c f))
+      → _≡_ {A = InFlight} (record { count = n; fetched = x; decoded = d; executed = e }) (settledFlight p c f)
   all-told first second hz hy rq lb count fetched ro ld nothing worked =
       let decoded = told-in-ID/EX (c - 1) (hz ∙ ap (fetchedIn p) first) ro ld in
       let executed = told-in-EX/WB (c - 2) (hy ∙ ap (fetchedIn p) second) rq lb nothing worked in

@@ -6,8 +6,8 @@ ghost use mathlib.Core.Path.{_≡_};
 ghost use mathlib.Core.Bool.{true};
 ghost use Rattle.unit_rules.specs.Cycle.{cyclesOf};
 ghost use Rattle.unit_rules.specs.Record.{lastOf, wellMadeOf};
-ghost use Rattle.unit_rules.specs.Stages.{sourcesOf, readAt, inFlightOf};
-ghost use Rattle.unit_rules.specs.Settled.{settledOf, Settled};
+ghost use Rattle.unit_rules.specs.Stages.{sourcesOf, readAt};
+ghost use Rattle.unit_rules.specs.Settled.{settledFlight, Settled};
 use crate::cycles::one_by_one;
 use crate::cycles::reassembled;
 use plain::lines::execute_lines;
@@ -44,7 +44,7 @@ fn read_for(latch: IfId, registers: [Register; 32]) -> Operands
 
 // Count and latches at cycle c of a program, where the registers tell the values.
 fn flight_at(words: &[u32], n: Count, c: u32, registers: [Register; 32]) -> InFlight
-    ensures { λ r. ⌜ r ≡ inFlightOf (settledOf (record { words = now (words .entry); n = n }) c registers) ⌝ }
+    ensures { λ r. ⌜ r ≡ settledFlight (record { words = now (words .entry); n = n }) c registers ⌝ }
 {
     let decoding = fetched_in(words, n, cycles_before(c, 1));
     let executing = fetched_in(words, n, cycles_before(c, 2));

@@ -7,7 +7,7 @@ use Rattle.unit_rules.proofs.Shared.{getD-set-same, getD-set-other, Reg
 use Rattle.unit_rules.proofs.Shared.{Pointer, Target, None, To, rdOf, operationOf, readsOf, takesFirst, takesSecond}
 use Rattle.unit_rules.proofs.Shared.{takesThird, isNop, targetOf, stored, IfId}
 use Rattle.unit_rules.proofs.Shared.{IdEx, ExWb, Program, Unit, instructionAt, fetchedIn, given, afterWB, isTarget, newestOperands, operandsIn}
-use Rattle.unit_rules.proofs.Shared.{afterEX, afterID, afterIF, cycleOf, cyclesOf, Whole}
+use Rattle.unit_rules.proofs.Shared.{afterEX, afterID, afterIF, cycleOf, cyclesOf, inFlightOf, Whole}
 use Rattle.unit_rules.proofs.Shared.IF/ID
 use Rattle.unit_rules.proofs.Shared.ID/EX
 use Rattle.unit_rules.proofs.Shared.EX/WB
@@ -18,6 +18,7 @@ use Rattle.pipeline.proofs.Stages.{Slot, Stages, Latched, Pipe, Lawful, GoodIn,
 use Rattle.pipeline.proofs.Stages.Slot.{empty, holds}
 use Rattle.unit_rules.specs.declared.Operands.{Operands}
 use Rattle.unit_rules.specs.declared.Instruction.{Instruction}
+use Rattle.unit_rules.specs.declared.InFlight.{InFlight}
 use Rattle.unit_rules.proofs.Positions.{Placed, placed-cycles, fetch-min, cycles-program, cycles-number}
 
 -- ---- the unit's stages, on instructions
@@ -96,8 +97,12 @@ abbrev pub slotOfExWb : ExWb → Slot (Latched Instruction Outcome)
 slotOfExWb EX/WB.Empty = empty
 slotOfExWb (EX/WB.Holds i o) = holds (record { instr = i; rest = o })
 
+-- registers and what is in flight, as a pipeline
+abbrev pub pipeWith : List Register → InFlight → Pipe machine
+pipeWith f l = record { file = f; ifid = slotOf (l .fetched); idex = slotOfIdEx (l .decoded); exwb = slotOfExWb (l .executed) }
+
 abbrev pub pipeOf : Unit → Pipe machine
-pipeOf u = record { file = u .registers; ifid = slotOf (u .fetched); idex = slotOfIdEx (u .decoded); exwb = slotOfExWb (u .executed) }
+pipeOf u = pipeWith (u .registers) (inFlightOf u)
 
 -- and back: nothing of the latches is lost
 abbrev ifIdOf : Slot Instruction → IfId
@@ -124,26 +129,12 @@ ex-wb-back : (x : ExWb) → exWbOf (slotOfExWb x) ≡ x
 ex-wb-back EX/WB.Empty = refl
 ex-wb-back (EX/WB.Holds i o) = refl
 
--- two units with the same fields are the same
-pub same-fields : (u v : Unit) → u .program ≡ v .program → u .count .0 ≡ v .count .0 → u .cycle ≡ v .cycle → u .registers ≡ v .registers
-    → u .fetched ≡ v .fetched → u .decoded ≡ v .decoded → u .executed ≡ v .executed → u ≡ v
-same-fields u v program count cycle registers fetched decoded executed = λ i. record {
-  program = program i;
-  count = record { 0 = count i };
-  cycle = cycle i;
-  registers = registers i;
-  fetched = fetched i;
-  decoded = decoded i;
-  executed = executed i;
-}
-
--- and so are two that have the same pipeline beside program, count and cycle number
-pub same-unit : (u v : Unit) → u .program ≡ v .program → u .count .0 ≡ v .count .0 → u .cycle ≡ v .cycle → pipeOf u ≡ pipeOf v → u ≡ v
-same-unit u v program count cycle pipe =
-    same-fields u v program count cycle (ap (λ (s : Pipe machine). s .file) pipe)
-    (sym (if-id-back (u .fetched)) ∙ ap (λ (s : Pipe machine). ifIdOf (s .ifid)) pipe ∙ if-id-back (v .fetched))
-    (sym (id-ex-back (u .decoded)) ∙ ap (λ (s : Pipe machine). idExOf (s .idex)) pipe ∙ id-ex-back (v .decoded))
-    (sym (ex-wb-back (u .executed)) ∙ ap (λ (s : Pipe machine). exWbOf (s .exwb)) pipe ∙ ex-wb-back (v .executed))
+pub same-flight : (k l : InFlight) (f g : List Register) → k .count .0 ≡ l .count .0 → pipeWith f k ≡ pipeWith g l → k ≡ l
+same-flight k l f g count pipe =
+    let fetched = sym (if-id-back (k .fetched)) ∙ ap (λ (s : Pipe machine). ifIdOf (s .ifid)) pipe ∙ if-id-back (l .fetched) in
+    let decoded = sym (id-ex-back (k .decoded)) ∙ ap (λ (s : Pipe machine). idExOf (s .idex)) pipe ∙ id-ex-back (l .decoded) in
+    let executed = sym (ex-wb-back (k .executed)) ∙ ap (λ (s : Pipe machine). exWbOf (s .exwb)) pipe ∙ ex-wb-back (l .executed) in
+    λ i. record { count = record { 0 = count i }; fetched = fetched i; decoded = decoded i; executed = executed i }
 
 -- ---- a cycle
 

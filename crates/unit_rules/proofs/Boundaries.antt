@@ -11,6 +11,7 @@ use Rattle.table.specs.Refusal.{firstBad}
 use Rattle.job_rules.specs.declared.Program.{Program}
 use Rattle.unit_rules.specs.declared.Unit.{Unit}
 use Rattle.unit_rules.specs.Record.{numbersMade, drainedOf, wellMadeOf}
+use Rattle.unit_rules.specs.Stages.{inFlightOf, unitWith}
 use Rattle.unit_rules.specs.Calls.{freshOf, cycledOf, goesOn, ranOf, registerOf, askedDrained}
 
 -- a program of these lines
@@ -37,15 +38,7 @@ drained-unit = refl
 
 -- "tests 10 first": of a drained unit that is not well made, at cycle 1 of no lines, and a register over 31
 abbrev illMade : Unit
-illMade = record {
-  program = freshOf .program;
-  count = freshOf .count;
-  cycle = 1;
-  registers = freshOf .registers;
-  fetched = freshOf .fetched;
-  decoded = freshOf .decoded;
-  executed = freshOf .executed;
-}
+illMade = unitWith freshOf 1 (freshOf .registers) (inFlightOf freshOf)
 
 pub state-first : (cycledOf illMade .refusal ∷ ranOf illMade 1 .refusal ∷ registerOf illMade 32 .refusal ∷ askedDrained illMade .refusal ∷ [])
     ≡ (10 ∷ 10 ∷ 10 ∷ 10 ∷ [])

@@ -6,7 +6,7 @@ use Rattle.unit_rules.proofs.Shared.{_∷_, add-zero, arith, eq-eqb, ne
 use Rattle.unit_rules.proofs.Shared.{getD, set, take, drop, length, length-set, length-append, length-replicate, take-append-seam}
 use Rattle.unit_rules.proofs.Shared.{getD-set-same, getD-set-other, Register, zeroRegister, wordAt, ofBytes, DRAINED, firstBad, plain, Job}
 use Rattle.unit_rules.proofs.Shared.{ReadJob, instructionsAt, twoAt, registersAt, wordsIn, registersOf, filled, jobOf, readOf, linesOf, Unit}
-use Rattle.unit_rules.proofs.Shared.{Cycled, Ran, cyclesOf, lastOf, goneOf, registersSet, loadedOf, startOf, cycledOf, ranOf, Whole}
+use Rattle.unit_rules.proofs.Shared.{Cycled, Ran, cyclesOf, lastOf, goneOf, registersSet, loadedOf, startOf, cycledOf, ranOf, unitWith, Whole}
 use Rattle.unit_rules.proofs.Shared.{afterCalls, Call, unitAfter, cyclesIn, unitAfterAll, cyclesInAll}
 use Rattle.table.proofs.Decided.{stops, passes, ends, not-denied}
 use Rattle.job_rules.proofs.Pieces.{length-pieces}
@@ -14,7 +14,7 @@ use Rattle.job_rules.proofs.Refusals.{accepted, read}
 use Rattle.unit_rules.specs.Sequence.Call.{cycle, run, register, drained, refusedStart}
 use Rattle.unit_rules.proofs.Positions.{drained-after, cycles-program, cycles-number}
 use Rattle.unit_rules.proofs.WellMade.{WellMade, well-made-test, well-made-gone, well-made-cycles, cycles-join, leftOf, goes-on}
-use Rattle.unit_rules.specs.Settled.{settledOf}
+use Rattle.unit_rules.specs.Settled.{settledFlight}
 use Rattle.unit_rules.proofs.Settled.{unit-after}
 
 -- ---- a job that was read
@@ -85,8 +85,8 @@ module _ (j : Job) (u : Unit) (s : Sound j) where
   well-made-started = well-made-gone (loadedOf j u) (s .few) (s .good)
 
   pub unit-started : Whole (u .registers) → (c : ℕ)
-      → cyclesOf c (goneOf (loadedOf j u))
-      ≡ settledOf (j .program) c (plain (take (c - 3) (linesOf (j .program))) (registersSet (j .r) (j .registers) (u .registers)))
+      → (let g = plain (take (c - 3) (linesOf (j .program))) (registersSet (j .r) (j .registers) (u .registers)) in
+      cyclesOf c (goneOf (loadedOf j u)) ≡ unitWith (goneOf (loadedOf j u)) c g (settledFlight (j .program) c g))
   unit-started whole c = unit-after (loadedOf j u) (set-whole (j .r) (j .registers) (u .registers) whole) (omega (arith, s .few, s .lines)) c
 
 -- ---- calls of `cycle` on a well-made unit

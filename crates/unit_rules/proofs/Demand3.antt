@@ -6,15 +6,15 @@ use Rattle.unit_rules.proofs.Shared.{le-refl, arith, eq-eqb, eqb-true, 
 use Rattle.unit_rules.proofs.Shared.{length-take-le, Register, zeroRegister, rowOf, DRAINED, plain, plainRows, registers-as-rows, Job}
 use Rattle.unit_rules.proofs.Shared.{instructionsAt, readOf, linesOf, Unit, fetchedIn, Cycled, cyclesOf, inDecoded, inExecuted, drainedOf, lastOf}
 use Rattle.unit_rules.proofs.Shared.{wellMadeOf, goneOf, registersSet, loadedOf, startOf, cycledOf, ranOf, askedDrained, Whole, afterCalls, Call}
-use Rattle.unit_rules.proofs.Shared.{unitAfterAll, cyclesInAll}
+use Rattle.unit_rules.proofs.Shared.{unitAfterAll, cyclesInAll, unitWith}
 use Rattle.plain_rules.specs.Answer.{answerOf, executeAllOf}
 use Rattle.plain_rules.proofs.Refusals.{executed}
 use Rattle.table.proofs.Decided.{passes, ends, not-denied}
 use Rattle.unit_rules.specs.declared.Started.{Started}
 use Rattle.unit_rules.specs.declared.Drained.{Drained}
-use Rattle.unit_rules.specs.Settled.{settledOf}
+use Rattle.unit_rules.specs.Settled.{settledFlight}
 use Rattle.unit_rules.proofs.Positions.{drained-after, cycles-program, cycles-number}
-use Rattle.unit_rules.proofs.Settled.{settled-placed}
+use Rattle.unit_rules.proofs.Settled.{id-told, ex-told}
 use Rattle.unit_rules.proofs.WellMade.{WellMade, well-made-test, well-made-cycles, cycles-join, leftOf}
 use Rattle.unit_rules.proofs.Calls.{Sound, all-made, ran, start-refused, sound-read, started-is, set-from-file, left-as-they-were, well-made-started, unit-started, next-call, no-call, calls-are-cycles}
 
@@ -83,12 +83,14 @@ module _ (file : List ℕ) (u : Unit) (whole : Whole (u .registers)) (accepts : 
         ap (unitAfterAll calls) is-gone ∙ a .0 ∙ ap (λ (k : ℕ). cyclesOf k gone) (zero-add (cyclesInAll calls gone) ∙ sym same),
       )
 
-  -- After c cycles the whole unit is told by its program, by c and by what the plain machine leaves after the first c - 3 words: what the latches hold are lines of
-  -- the program, with what is read in these registers and made of it.
-  pub demand3-unit : (c : ℕ) → c ≤ lastOf n → afterCalls c started ≡ settledOf (job .program) c (plain (take (c - 3) lines) set)
-  demand3-unit c h = are-cycles c h ∙ unit-started job u sound whole c
+  -- After c cycles the whole unit: its registers are what the plain machine leaves after the first c - 3 words, beginning from the registers as the start set
+  -- them; program, c and these registers tell count and latches, with the values that are latched; the rest is as the start left it.
+  pub demand3-unit : (c : ℕ) → c ≤ lastOf n → (let g = plain (take (c - 3) lines) set in afterCalls c started ≡ unitWith started c g (settledFlight (job .program) c g))
+  demand3-unit c h =
+      let g = plain (take (c - 3) lines) set in
+      are-cycles c h ∙ unit-started job u sound whole c ∙ ap (λ (v : Unit). unitWith v c g (settledFlight (job .program) c g)) (sym is-gone)
 
-  -- So the registers are what the plain machine leaves after the first c - 3 words, beginning from the registers as the start set them.
+  -- So the registers are these.
   pub demand3-registers : (c : ℕ) → c ≤ lastOf n → afterCalls c started .registers ≡ plain (take (c - 3) lines) set
   demand3-registers c h = ap (λ (v : Unit). v .registers) (demand3-unit c h)
 
@@ -107,7 +109,7 @@ module _ (file : List ℕ) (u : Unit) (whole : Whole (u .registers)) (accepts : 
 
   -- Its cycle number is the number of cycles since the start.
   pub demand3-number : (c : ℕ) → c ≤ lastOf n → afterCalls c started .cycle ≡ c
-  demand3-number c h = ap (λ (v : Unit). v .cycle) (demand3-unit c h)
+  demand3-number c h = ap (λ (v : Unit). v .cycle) (are-cycles c h) ∙ cycles-number c gone ∙ zero-add c
 
   -- The latches hold what was fetched in cycles c, c-1 and c-2: instructions c-1, c-2 and c-3, or nothing outside 0 .. n-1.
   pub demand3-latches : (c : ℕ) → c ≤ lastOf n
@@ -116,10 +118,10 @@ module _ (file : List ℕ) (u : Unit) (whole : Whole (u .registers)) (accepts : 
       × (inExecuted (afterCalls c started .executed) ≡ fetchedIn (job .program) (c - 2))
   demand3-latches c h =
       let e = demand3-unit c h in
-      let p = settled-placed (job .program) c (plain (take (c - 3) lines) set) in (
+      let g = plain (take (c - 3) lines) set in (
         ap (λ (v : Unit). v .fetched) e,
-        ap (λ (v : Unit). inDecoded (v .decoded)) e ∙ p .in-ID/EX,
-        ap (λ (v : Unit). inExecuted (v .executed)) e ∙ p .in-EX/WB,
+        ap (λ (v : Unit). inDecoded (v .decoded)) e ∙ id-told (job .program) c g,
+        ap (λ (v : Unit). inExecuted (v .executed)) e ∙ ex-told (job .program) c g,
       )
 
   -- A call of `cycle` is refused with 8 exactly when the unit is drained.

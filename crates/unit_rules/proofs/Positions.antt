@@ -4,7 +4,7 @@
 use Rattle.unit_rules.proofs.Shared.{ℕ, zero, suc, _+_, _-_, _≤_, _<_, min, _≡_, refl, sym, ap, _∙_, Bool, true, false, _&&_, and-false, List, add-one}
 use Rattle.unit_rules.proofs.Shared.{arith, lt-ltb, le-ltb, le-leb, lt-leb, leb-true, leb-false, ltb-true, ltb-false, eqb-true, eqb-false}
 use Rattle.unit_rules.proofs.Shared.{ne-eqb, eqb, ltb, leb, leb·zero, Register, IfId, IdEx, ExWb, Program, Unit, afterEX, afterID, afterIF}
-use Rattle.unit_rules.proofs.Shared.{countAfter, cycleOf, cyclesOf, fetchedIn, inDecoded, inExecuted, isEmpty, drainedOf, lastOf}
+use Rattle.unit_rules.proofs.Shared.{countAfter, cycleOf, cyclesOf, fetchedIn, inDecoded, inExecuted, isEmpty, drainedOf, lastOf, inFlightOf, unitWith, add-zero}
 use Rattle.alu_rules.proofs.Integers.{either}
 use Rattle.unit_rules.proofs.Shared.IF/ID
 use Rattle.unit_rules.proofs.Shared.ID/EX
@@ -20,6 +20,17 @@ pub cycles-number : (c : ℕ) (u : Unit) → cyclesOf c u .cycle ≡ u .cycle + 
 unfolding cyclesOf cycleOf
 cycles-number zero u = omega arith
 cycles-number (suc c) u = let h = cycles-number c u in omega arith
+
+-- all that they change are registers, what is in flight and the cycle number
+pub taken-apart : (c : ℕ) (u : Unit) → cyclesOf c u ≡ unitWith u c (cyclesOf c u .registers) (inFlightOf (cyclesOf c u))
+unfolding cyclesOf cycleOf
+taken-apart zero u = rw (add-zero (u .cycle))
+taken-apart (suc c) u =
+    let v : Unit = cyclesOf c u in
+    let number : u .cycle + c + 1 ≡ u .cycle + suc c = omega arith in
+    let once-more : unitWith (unitWith u c (v .registers) (inFlightOf v)) 1 (cycleOf v .registers) (inFlightOf (cycleOf v))
+    ≡ unitWith u (suc c) (cycleOf v .registers) (inFlightOf (cycleOf v)) = rw number in
+    ap (λ (w : Unit). unitWith w 1 (cycleOf v .registers) (inFlightOf (cycleOf v))) (taken-apart c u) ∙ once-more
 
 -- count and latches are where the cycle number puts them
 pub record Placed (u : Unit) : Type 0 where

@@ -4,16 +4,17 @@
 use Rattle.unit_rules.proofs.Shared.{ℕ, zero, suc, _+_, _-_, _≤_, _<_, min, _≡_, refl, sym, ap, subst, _∙_, Bool, true, false, cond, false≢true, List}
 use Rattle.unit_rules.proofs.Shared.{arith, ltb-true, ltb-false, ltb, getD, take, drop, length, getD-take, take-all, length-take-le, length-drop}
 use Rattle.unit_rules.proofs.Shared.{Register, stepOn, plainOn, step, plain, one-more, IfId, IdEx, ExWb, Program, linesOf, Unit}
-use Rattle.unit_rules.proofs.Shared.{instructionAt, fetchedIn, afterEX, afterID, cyclesOf, inDecoded, inExecuted, isEmpty, goneOf, Whole}
+use Rattle.unit_rules.proofs.Shared.{instructionAt, fetchedIn, afterEX, afterID, cyclesOf, inDecoded, inExecuted, isEmpty, goneOf, inFlightOf, unitWith, Whole}
 use Rattle.unit_rules.proofs.Shared.IF/ID
 use Rattle.unit_rules.proofs.Shared.ID/EX
 use Rattle.unit_rules.proofs.Shared.EX/WB
 use lib.Seq.{getD-drop}
 use Rattle.pipeline.proofs.Stages.{Slot, Pipe, GoodIn, instrIn, executed, executedAll, cycled, cycledAll, behind, holding, done, held-on, settles}
 use Rattle.unit_rules.specs.declared.Instruction.{Instruction}
-use Rattle.unit_rules.specs.Settled.{settledOf, Settled}
-use Rattle.unit_rules.proofs.Positions.{Placed, placed-cycles, id-keeps, ex-keeps, cycles-program, cycles-number}
-use Rattle.unit_rules.proofs.AsPipeline.{machine, Storable, lawful, slotOf, slotOfIdEx, slotOfExWb, pipeOf, same-fields, same-unit, as-ID, stream, cycles-piped, good-fetched}
+use Rattle.unit_rules.specs.declared.InFlight.{InFlight}
+use Rattle.unit_rules.specs.Settled.{settledFlight, Settled}
+use Rattle.unit_rules.proofs.Positions.{Placed, placed-cycles, id-keeps, ex-keeps, cycles-program, cycles-number, taken-apart}
+use Rattle.unit_rules.proofs.AsPipeline.{machine, Storable, lawful, slotOf, slotOfIdEx, slotOfExWb, pipeWith, pipeOf, same-flight, as-ID, stream, cycles-piped, good-fetched}
 
 -- ---- a settled unit as a pipeline
 
@@ -25,24 +26,40 @@ as-done : (z : IfId) (f : List Register) → slotOfExWb (afterEX EX/WB.Empty (af
 as-done IF/ID.Empty f = refl
 as-done (IF/ID.Holds i) f = refl
 
-pub settled-placed : (p : Program) (c : ℕ) (f : List Register) → Placed (settledOf p c f)
-settled-placed p c f = record {
-  counted = refl;
-  in-IF/ID = refl;
-  in-ID/EX = id-keeps (fetchedIn p (c - 1)) f;
-  in-EX/WB = ex-keeps EX/WB.Empty (afterID (fetchedIn p (c - 2)) f) ∙ id-keeps (fetchedIn p (c - 2)) f;
-}
-
 settled-piped : (p : Program) (c : ℕ) (f : List Register)
-    → pipeOf (settledOf p c f) ≡ holding machine f (slotOf (fetchedIn p (c - 2))) (slotOf (fetchedIn p (c - 1))) (slotOf (fetchedIn p c))
+    → pipeWith f (settledFlight p c f) ≡ holding machine f (slotOf (fetchedIn p (c - 2))) (slotOf (fetchedIn p (c - 1))) (slotOf (fetchedIn p c))
 settled-piped p c f =
     let read = as-ID (fetchedIn p (c - 1)) f in
     let made = as-done (fetchedIn p (c - 2)) f in
     λ i. record { file = f; ifid = slotOf (fetchedIn p c); idex = read i; exwb = made i }
 
+-- its latches hold what they should
+pub id-told : (p : Program) (c : ℕ) (f : List Register) → inDecoded (settledFlight p c f .decoded) ≡ fetchedIn p (c - 1)
+id-told p c f = id-keeps (fetchedIn p (c - 1)) f
+
+pub ex-told : (p : Program) (c : ℕ) (f : List Register) → inExecuted (settledFlight p c f .executed) ≡ fetchedIn p (c - 2)
+ex-told p c f = ex-keeps EX/WB.Empty (afterID (fetchedIn p (c - 2)) f) ∙ id-keeps (fetchedIn p (c - 2)) f
+
+settled-placed : (u : Unit) → Settled u → Placed u
+settled-placed u e = record {
+  counted = ap (λ (l : InFlight). l .count .0) e;
+  in-IF/ID = ap (λ (l : InFlight). l .fetched) e;
+  in-ID/EX = ap (λ (l : InFlight). inDecoded (l .decoded)) e ∙ id-told (u .program) (u .cycle) (u .registers);
+  in-EX/WB = ap (λ (l : InFlight). inExecuted (l .executed)) e ∙ ex-told (u .program) (u .cycle) (u .registers);
+}
+
 -- ---- a settled unit stays so
 
-module _ (p : Program) (c : ℕ) (f : List Register) (whole : Whole f) where
+module _ (u : Unit) (settled : Settled u) (whole : Whole (u .registers)) where
+  abbrev p : Program
+  p = u .program
+
+  abbrev c : ℕ
+  c = u .cycle
+
+  abbrev f : List Register
+  f = u .registers
+
   abbrev next : ℕ → Slot Instruction
   next = behind machine (slotOf (fetchedIn p (c - 2))) (slotOf (fetchedIn p (c - 1))) (slotOf (fetchedIn p c)) (stream p c)
 
@@ -55,25 +72,25 @@ module _ (p : Program) (c : ℕ) (f : List Register) (whole : Whole f) where
   good-next : (k : ℕ) → GoodIn machine Storable (next k)
   good-next k = subst (GoodIn machine Storable) (sym (next-reaches k)) (good-fetched p (c + k - 2))
 
-  held : (t : ℕ)
-      → (let x = reaching p c in pipeOf (cyclesOf t (settledOf p c f)) ≡ holding machine (executedAll machine x t f) (x t) (x (suc t)) (x (suc (suc t))))
+  held : (t : ℕ) → (let x = reaching p c in pipeOf (cyclesOf t u) ≡ holding machine (executedAll machine x t f) (x t) (x (suc t)) (x (suc (suc t))))
   held t =
-      cycles-piped (settledOf p c f) (settled-placed p c f) t
-      ∙ ap (cycledAll machine (stream p c) t) (settled-piped p c f)
+      cycles-piped u (settled-placed u settled) t
+      ∙ ap (cycledAll machine (stream p c) t) (ap (pipeWith f) settled ∙ settled-piped p c f)
       ∙ held-on machine Storable Whole lawful (stream p c) f whole (slotOf (fetchedIn p (c - 2))) (slotOf (fetchedIn p (c - 1))) (slotOf (fetchedIn p c)) good-next t
       ∙ ap (λ (x : ℕ → Slot Instruction). holding machine (executedAll machine x t f) (x t) (x (suc t)) (x (suc (suc t)))) (λ i k. next-reaches k i)
 
-  stays : (t : ℕ) → cyclesOf t (settledOf p c f) ≡ settledOf p (c + t) (executedAll machine (reaching p c) t f)
+  stays : (t : ℕ) → (let g = executedAll machine (reaching p c) t f in cyclesOf t u ≡ unitWith u t g (settledFlight p (c + t) g))
   stays t =
-      let u : Unit = settledOf p c f in
       let g : List Register = executedAll machine (reaching p c) t f in
       let in-ID : c + suc t - 2 ≡ c + t - 1 = omega arith in
       let in-IF : c + suc (suc t) - 2 ≡ c + t = omega arith in
-      let count = placed-cycles t u (settled-placed p c f) .counted ∙ (λ i. min (cycles-number t u i) (cycles-program t u i .n .0)) in
-      same-unit (cyclesOf t u) (settledOf p (c + t) g) (cycles-program t u) count (cycles-number t u)
+      let count = placed-cycles t u (settled-placed u settled) .counted ∙ (λ i. min (cycles-number t u i) (cycles-program t u i .n .0)) in
+      let flight = same-flight (inFlightOf (cyclesOf t u)) (settledFlight p (c + t) g) (cyclesOf t u .registers) g count
       (held t
       ∙ (λ i. holding machine g (slotOf (fetchedIn p (c + t - 2))) (slotOf (fetchedIn p (in-ID i))) (slotOf (fetchedIn p (in-IF i))))
-      ∙ sym (settled-piped p (c + t) g))
+      ∙ sym (settled-piped p (c + t) g)) in
+      let registers = ap (λ (s : Pipe machine). s .file) (held t) in
+      taken-apart t u ∙ (λ i. unitWith u t (registers i) (flight i))
 
 -- ---- and its registers are the plain machine's
 
@@ -130,8 +147,13 @@ module _ (p : Program) (enough : p .n .0 ≤ length (p .words)) (c : ℕ) (f : L
   all-completed zero = let none : many c 0 ≡ 0 = omega arith in rw none
   all-completed (suc t) = ap (executed machine (reaching p c t)) (all-completed t) ∙ one-completed t
 
-  pub settled-on : Whole f → (t : ℕ) → cyclesOf t (settledOf p c f) ≡ settledOf p (c + t) (completed t)
-  settled-on whole t = stays p c f whole t ∙ ap (settledOf p (c + t)) (all-completed t)
+-- t cycles on, a settled unit has the registers that the plain machine leaves after the lines that complete, and these tell what is in flight
+pub settled-on : (u : Unit) → Settled u → Whole (u .registers) → u .program .n .0 ≤ length (u .program .words) → (t : ℕ)
+    → (let g = plain (take (many (u .cycle) t) (drop (u .cycle - 3) (linesOf (u .program)))) (u .registers) in
+    cyclesOf t u ≡ unitWith u t g (settledFlight (u .program) (u .cycle + t) g))
+settled-on u settled whole enough t =
+    stays u settled whole t
+    ∙ ap (λ (g : List Register). unitWith u t g (settledFlight (u .program) (u .cycle + t) g)) (all-completed (u .program) enough (u .cycle) (u .registers) t)
 
 -- ---- what is settled
 
@@ -143,8 +165,10 @@ good-decoded u h = subst (GoodIn machine Storable) (sym (as-held (u .decoded) �
     as-held (ID/EX.Holds i o) = refl
 
 -- from a go on
-pub gone-settled : (u : Unit) → goneOf u ≡ settledOf (u .program) 0 (u .registers)
-gone-settled u = same-fields (goneOf u) (settledOf (u .program) 0 (u .registers)) refl (omega arith) refl refl refl refl refl
+pub gone-settled : (u : Unit) → Settled (goneOf u)
+gone-settled u =
+    let none : 0 ≡ min 0 (u .program .n .0) = omega arith in
+    λ i. record { count = record { 0 = none i }; fetched = IF/ID.Empty; decoded = ID/EX.Empty; executed = EX/WB.Empty }
 
 -- before cycle 2, since no value has been latched
 nothing-decoded : (y : IdEx) → inDecoded y ≡ IF/ID.Empty → y ≡ ID/EX.Empty
@@ -163,7 +187,7 @@ settled-early u h early =
     let decoded = nothing-decoded (u .decoded) (h .in-ID/EX ∙ ap (fetchedIn p) first) ∙ ap (λ (c : ℕ). afterID (fetchedIn p c) (u .registers)) (sym first) in
     let executed = nothing-executed (u .executed) (h .in-EX/WB ∙ ap (fetchedIn p) second)
     ∙ ap (λ (c : ℕ). afterEX EX/WB.Empty (afterID (fetchedIn p c) (u .registers))) (sym second) in
-    same-fields u (settledOf p (u .cycle) (u .registers)) refl (h .counted) refl refl (h .in-IF/ID) decoded executed
+    λ i. record { count = record { 0 = h .counted i }; fetched = h .in-IF/ID i; decoded = decoded i; executed = executed i }
 
 -- two cycles after any record whose count and latches are where its cycle number puts them, whatever values were latched
 pub settled-in-two : (u : Unit) → Placed u → Whole (u .registers) → Settled (cyclesOf 2 u)
@@ -180,16 +204,15 @@ settled-in-two u h whole =
     let in-IF : suc (u .cycle + 1) ≡ v .cycle = omega arith in
     let same = sym (cycles-program 2 u) in
     let waiting = ap slotOf (h .in-IF/ID) ∙ (λ i. slotOf (fetchedIn (same i) (in-EX i))) in
-    same-unit v (settledOf (v .program) (v .cycle) (v .registers)) refl (placed-cycles 2 u h .counted) refl
+    same-flight (inFlightOf v) (settledFlight (v .program) (v .cycle) (v .registers)) (v .registers) (v .registers) (placed-cycles 2 u h .counted)
     (piped ∙ told ∙ (λ i. holding machine (file i) (waiting i) (slotOf (fetchedIn (same i) (in-ID i))) (slotOf (fetchedIn (same i) (in-IF i))))
     ∙ sym (settled-piped (v .program) (v .cycle) (v .registers)))
 
--- so after c cycles from a go the unit is told by its program, by c and by what the plain machine leaves after the first c - 3 lines
+-- so after c cycles from a go the registers are what the plain machine leaves after the first c - 3 lines, and these tell what is in flight
 pub unit-after : (u : Unit) → Whole (u .registers) → u .program .n .0 ≤ length (u .program .words) → (c : ℕ)
-    → cyclesOf c (goneOf u) ≡ settledOf (u .program) c (plain (take (c - 3) (linesOf (u .program))) (u .registers))
+    → (let g = plain (take (c - 3) (linesOf (u .program))) (u .registers) in cyclesOf c (goneOf u) ≡ unitWith (goneOf u) c g (settledFlight (u .program) c g))
 unit-after u whole enough c =
     let all : 0 + c ≡ c = omega arith in
     let first : 0 + c - 3 - 0 ≡ c - 3 = omega arith in
-    ap (cyclesOf c) (gone-settled u)
-    ∙ settled-on (u .program) enough 0 (u .registers) whole c
-    ∙ (λ i. settledOf (u .program) (all i) (plain (take (first i) (linesOf (u .program))) (u .registers)))
+    settled-on (goneOf u) (gone-settled u) whole enough c
+    ∙ (λ i. let g = plain (take (first i) (linesOf (u .program))) (u .registers) in unitWith (goneOf u) c g (settledFlight (u .program) (all i) g))
