@@ -1,5 +1,6 @@
--- A four-stage pipeline over any instructions, operands, outcomes and files, and what is in it after each cycle. Carried by one law of the stages: a
--- forwarded operand works as one that is read after the write. Nothing here knows a word, a register or a line number.
+-- A four-stage pipeline over any instructions, operands, outcomes and files: what is in it after each cycle of any stream (`held-on`), and that two cycles settle it,
+-- whatever it held (`settles`). Carried by one law of the stages: a forwarded operand works as one that is read after the write. Nothing here knows a word, a
+-- register or a line number.
 -- Assumes nothing.
 use Prim.Native.Nat.{ℕ, zero, suc}
 use mathlib.Core.Path.{_≡_, refl, ap, _∙_}

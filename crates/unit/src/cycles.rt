@@ -43,6 +43,7 @@ pub(crate) fn reassembled(
     }
 }
 
+// So many cycles of a well-made unit.
 pub(crate) fn one_by_one(u: Unit, m: u32) -> Unit
     requires { ⌜ (wellMadeOf u ≡ true) × (u .cycle + m ≤ lastOf (u .program .n .0)) ⌝ }
     ensures { λ r. ⌜ r ≡ cyclesOf m u ⌝ }

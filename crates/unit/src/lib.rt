@@ -46,7 +46,8 @@ pub fn cycle(u: Unit) -> Cycled
     }
 }
 
-// Makes as many cycles as the budget allows and the unit has left, and answers how many. Refused with 10 only: a drained unit makes 0.
+// Makes as many cycles as the budget allows and the unit has left, and answers how many. Refused with 10 only: a drained unit makes 0. They are not gone through one
+// by one, but by the lines that complete in them.
 pub fn run(u: Unit, budget: u32) -> Ran
     ensures { λ r. ⌜ r ≡ ranOf u budget ⌝ }
 {

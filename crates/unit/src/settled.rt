@@ -77,7 +77,7 @@ fn by_lines(u: Unit, m: u32) -> Unit
     reassembled(u, m, registers, count, fetched, decoded, executed)
 }
 
-// So many cycles of a well-made unit. Before cycle 2 it has latched no value; later it is settled once two cycles are made, whatever values it has latched.
+// So many cycles of a well-made unit, by lines. Before cycle 2 it has latched no value; later it is settled once two cycles are made, whatever values it has latched.
 pub(crate) fn cycles(u: Unit, m: u32) -> Unit
     requires { ⌜ (wellMadeOf u ≡ true) × (u .cycle + m ≤ lastOf (u .program .n .0)) ⌝ }
     ensures { λ r. ⌜ r ≡ cyclesOf m u ⌝ }
