@@ -1,11 +1,12 @@
 // Signed sums and products, in unsigned numbers of the lane's own width. There is a function for each width, since one in 64 bits that takes the width
-// as a parameter takes four times as long; what they promise and the laws of their proofs are over the width, and there once.
+// as a parameter is slower, of halfwords by far; what they promise and the laws of their proofs are over the width, and there once.
 
 ghost use mathlib.Core.Path.{_≡_};
 ghost use mathlib.Core.Bool.{cond};
 ghost use lib.IntN.{_*ℤ_};
 ghost use Rattle.alu_rules.specs.Width.{signed};
 ghost use Rattle.alu_lanes.specs.Sign.{exactSum, Clamps, signLost};
+use register::halves::pick_16;
 
 // A sum clamped to 16 bits, and whether the exact one was beyond them.
 pub struct Clamped16 {
@@ -25,13 +26,7 @@ pub struct Clamped64 {
     pub beyond: bool,
 }
 
-// Both values are there and one is taken, so that no jump is needed.
-fn pick_16(yes: bool, a: u16, b: u16) -> u16
-    ensures { λ r. ⌜ r ≡ cond yes a b ⌝ }
-{
-    if yes { a } else { b }
-}
-
+// As `pick_16` of crate `register`, at the other two widths.
 fn pick_32(yes: bool, a: u32, b: u32) -> u32
     ensures { λ r. ⌜ r ≡ cond yes a b ⌝ }
 {

@@ -23,6 +23,8 @@ use Rattle.register.proofs.halves.join_halfwords.Kinds as join-halfword
 use Rattle.register.proofs.halves.join_halfwords.Reads as join-halfwords-reads
 use Rattle.register.proofs.halves.join_words.Kinds as join-words-kinds
 use Rattle.register.proofs.halves.join_words.Reads as join-words-reads
+use Rattle.register.proofs.halves.pick_16.Kinds as pick-16-kinds
+use Rattle.register.proofs.halves.pick_16.Reads as pick-16-reads
 
 pub zeroed-unique : Determined 0 zeroed-kinds.ps zeroed-kinds.r zeroed-reads.requires zeroed-reads.Post
 zeroed-unique = by-value (λ κs a. no-requires) (λ κs a v w. refl)
@@ -53,3 +55,6 @@ join-halfwords-unique = by-value (λ κs a. no-requires) (λ κs a v w. refl)
 
 pub join-words-unique : Determined 0 join-words-kinds.ps join-words-kinds.r join-words-reads.requires join-words-reads.Post
 join-words-unique = by-value (λ κs a. no-requires) (λ κs a v w. refl)
+
+pub pick-16-unique : Determined 0 pick-16-kinds.ps pick-16-kinds.r pick-16-reads.requires pick-16-reads.Post
+pick-16-unique = by-value (λ κs a. no-requires) (λ κs a v w. refl)

@@ -32,7 +32,7 @@ pub fn join_words(hi: u32, lo: u32) -> u64
 }
 
 // Both values are there and one is taken, so that no jump is needed.
-fn pick(yes: bool, a: u16, b: u16) -> u16
+pub fn pick_16(yes: bool, a: u16, b: u16) -> u16
     ensures { λ r. ⌜ r ≡ cond yes a b ⌝ }
 {
     if yes { a } else { b }
@@ -43,7 +43,7 @@ pub(crate) fn put_half(w: u32, k: usize, i: usize, v: u16) -> u32
     requires { ⌜ k < 8 ⌝ }
     ensures { λ r. ⌜ r ≡ withHalf i v k w ⌝ }
 {
-    let hi = pick(i == k + 1, v, half_of_word(w, true));
-    let lo = pick(i == k, v, half_of_word(w, false));
+    let hi = pick_16(i == k + 1, v, half_of_word(w, true));
+    let lo = pick_16(i == k, v, half_of_word(w, false));
     join_halfwords(hi, lo)
 }

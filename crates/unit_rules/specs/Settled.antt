@@ -21,5 +21,6 @@ settledFlight program c f = record {
   executed = afterEX EX/WB.Empty (afterID (fetchedIn program (c - 2)) f);
 }
 
+-- a unit in which it is so
 abbrev pub Settled : Unit → Type 0
 Settled u = inFlightOf u ≡ settledFlight (u .program) (u .cycle) (u .registers)
