@@ -13,9 +13,9 @@
 #                    definition, a proof, crates.txt or the kit has; one that fails, at first and after a good one; one that is broken off; a source
 #                    that is edited while it builds; two uses at once
 #   running          each exit status; both streams as the program wrote them; standard input from a file, a pipe, /dev/null, a folder; names with a
-#                    space or with a hyphen in front; from another folder; through links; several files
-# Where ./card has built the real programs, or with --real, it also runs them on the examples and compares what they print with sample.trace and
-# larger.trace.
+#                    space or with a hyphen in front; from another folder; through links; several files, and one beside standard input; bytes that
+#                    look like a refusal
+# Where ./card has built the real programs, or with --real, it also runs them on the examples and compares what they print with what stands beside these.
 set -u
 
 here=$(dirname "$(dirname "$(readlink -f "$0")")")
@@ -56,8 +56,7 @@ crates_of() {
     for name in $all; do [ "$name" = "$1" ] || echo "$name"; done
     echo "$1"
 }
-crates_of trace >"$TRY/crates.trace"
-crates_of traces >"$TRY/crates.traces"
+for program in trace traces assemble; do crates_of "$program" >"$TRY/crates.$program"; done
 # a library among them, far from the program, whose sources the cases change
 TRY_LIBRARY="crates/$(tail -n 2 "$TRY/crates.trace" | head -n 1)"
 export TRY_LIBRARY
@@ -103,19 +102,20 @@ echo "rt: $2 ran, and wrote what its file 'stdout' has (0 s)"
 echo "rt: ok, $(grep -c . "$TRY/crates.$2") crates proved"
 END
 
-# Says which build it is, and then the names that it is given or its standard input; a case may have it say more, or die.
+# Says which build it is, and then the names that it is given or its standard input; a case may have it say both, or more, or die.
 cat >"$TRY/program" <<'END'
 #!/bin/sh
 echo run >>"$TRY/runs"
 echo 'build BUILD'
-if [ $# -gt 0 ]; then printf 'name %s\n' "$@"; else cat 2>/dev/null || echo UNREADABLE >&2; fi
+[ $# -eq 0 ] || printf 'name %s\n' "$@"
+[ $# -gt 0 ] && [ -z "${TRY_READS-}" ] || cat 2>/dev/null || echo UNREADABLE >&2
 [ -z "${TRY_OUT-}" ] || printf '%s\n' "$TRY_OUT"
 [ -z "${TRY_ERR-}" ] || printf '%s\n' "$TRY_ERR" >&2
 [ -z "${TRY_DIES-}" ] || kill -s KILL $$
 END
 chmod +x "$TRY/kit/bin/rt" "$TRY/program"
 PATH="$TRY/kit/bin:$PATH"
-unset RATTLE_HOME TRY_OUT TRY_ERR TRY_DIES
+unset RATTLE_HOME TRY_OUT TRY_ERR TRY_DIES TRY_READS
 
 # ---- how a case is told
 
@@ -162,6 +162,7 @@ printf 'a job\n' >"$TRY/job"
 begin 'the verbs are listed'
 run ./card
 gives 0; out_has './card trace [JOB]'; out_has './card traces JOB..'; err_is ''; builds 0
+out_has './card assemble [TEXT [REGISTERS]]'; out_has './card texts TEXT..'
 end
 
 begin 'an unknown verb'
@@ -174,6 +175,11 @@ run ./card trace "$TRY/job" "$TRY/job"
 gives 2; out_is ''; err_has 'usage: ./card trace [JOB]'; builds 0
 end
 
+begin 'too many files beside one on standard input'
+run ./card assemble "$TRY/job" "$TRY/job" "$TRY/job"
+gives 2; out_is ''; err_has 'usage: ./card assemble [TEXT [REGISTERS]]'; builds 0
+end
+
 begin 'too few files'
 run ./card traces
 gives 2; out_is ''; err_has 'usage: ./card traces JOB..'; builds 0
@@ -182,6 +188,11 @@ end
 begin 'a missing file, said before anything is built'
 run ./card trace "$TRY/missing.job"
 gives 2; out_is ''; err_has "$TRY/missing.job"; builds 0
+end
+
+begin 'a second file that is missing, said before anything is built'
+run ./card assemble "$TRY/job" "$TRY/missing"
+gives 2; out_is ''; err_has "$TRY/missing: there is no such file"; builds 0
 end
 
 begin 'a folder as file'
@@ -474,6 +485,21 @@ run ./card traces one.job
 gives 0; builds 1; out_is "$(newest)\nname one.job\n"
 end
 
+begin 'the first file on standard input, and the other by its name'
+printf 'registers\n' >'a  second'
+run env TRY_READS=1 ./card assemble "$TRY/job" 'a  second'
+gives 0; builds 1; out_is "$(newest)\nname a  second\na job\n"
+run ./card assemble "$TRY/job"
+gives 0; builds 1; out_is "$(newest)\na job\n"
+end
+
+begin 'bytes on standard output that look like a refusal are none; a refusal on standard error gives 1'
+run env TRY_OUT='REFUSED 4' ./card assemble "$TRY/job"
+gives 0; out_has 'REFUSED 4'; err_is ''
+run env TRY_ERR='REFUSED 11 1' ./card assemble "$TRY/job"
+gives 1; err_is 'REFUSED 11 1\n'
+end
+
 begin 'from another folder, with a name that is relative to it'
 cp "$TRY/job" "$TRY/elsewhere/near"
 cd "$TRY/elsewhere" || exit 1
@@ -499,35 +525,73 @@ end
 
 cd "$here" || exit 1
 PATH=$own_path
-for program in trace traces; do
+
+# Whether the real program can be tried on this example: it is run once with its messages shown, since it may have to build, and one wants to see how far it is.
+is_there() { # PROGRAM EXAMPLE
     if ! command -v rt >/dev/null; then
-        skip "the real $program: the kit's command rt is not on the path"
-        continue
-    elif [ -z "$real" ] && [ ! -x "target/card/$program" ]; then
-        skip "the real $program: ./card has not built it yet, and --real was not asked for"
-        continue
-    fi
-    # once with its messages shown: it may have to build, and one wants to see how far it is
-    if ! ./card "$program" examples/sample.job >/dev/null; then
-        begin "the real $program"
+        skip "the real $1: the kit's command rt is not on the path"
+    elif [ -z "$real" ] && [ ! -x "target/card/$1" ]; then
+        skip "the real $1: ./card has not built it yet, and --real was not asked for"
+    elif ! ./card "$1" "$2" >/dev/null; then
+        begin "the real $1"
         not 'it could not be built or run'
         end
-        continue
+    else
+        return 0
     fi
+    return 1
+}
+prints() { cmp -s "$1" "$TRY/out" || not "it is not what $1 has"; }
+
+for program in trace traces; do
+    is_there "$program" examples/sample.job || continue
     for job in sample larger; do
         begin "the real $program on examples/$job.job"
-        if [ "$program" = trace ]; then
-            run ./card trace "examples/$job.job"
-            cp "examples/$job.trace" "$TRY/expected"
-        else
-            run ./card traces "examples/$job.job"
-            { echo "examples/$job.job"; cat "examples/$job.trace"; } >"$TRY/expected"
-        fi
-        gives 0
-        cmp -s "$TRY/expected" "$TRY/out" || not "it is not what examples/$job.trace has"
+        run ./card "$program" "examples/$job.job"
+        { [ "$program" = trace ] || echo "examples/$job.job"; cat "examples/$job.trace"; } >"$TRY/expected"
+        gives 0; prints "$TRY/expected"
         end
     done
 done
+
+if is_there assemble examples/sample.text; then
+    begin 'the real assemble on examples/sample.text'
+    run ./card assemble examples/sample.text
+    gives 0; prints examples/sample.job; err_is ''
+    end
+
+    begin 'with the bytes of a register'
+    printf '0123456789abcdef' >"$TRY/registers"
+    run ./card assemble examples/sample.text "$TRY/registers"
+    { printf '\002\0\001\0'; tail -c +5 examples/sample.job; cat "$TRY/registers"; } >"$TRY/expected"
+    gives 0; prints "$TRY/expected"; err_is ''
+    end
+
+    begin 'a text that is refused, and registers that are'
+    printf 'nop\nshrhi 1 2 16\n' >"$TRY/refused"
+    run ./card assemble "$TRY/refused"
+    gives 1; out_is ''; err_is 'REFUSED 12 2\n'
+    run ./card assemble examples/sample.text "$TRY/refused"
+    gives 1; out_is ''; err_is 'REFUSED 3\n'
+    end
+
+    begin 'a text and registers that are missing'
+    run ./card assemble "$TRY/missing"
+    gives 2; out_is ''
+    run ./card assemble examples/sample.text "$TRY/missing"
+    gives 2; out_is ''
+    end
+fi
+
+if is_there texts examples/sample.text; then
+    begin 'the real texts on a good, a refused and a missing text'
+    printf 'nop\n\n' >"$TRY/refused"
+    run ./card texts examples/sample.text "$TRY/refused"
+    gives 1; out_is "examples/sample.text\nWORDS 2\n00000A1\n1810422\n$TRY/refused\nREFUSED 11 2\n"; err_is ''
+    run ./card texts "$TRY/missing"
+    gives 2; err_is "UNREADABLE $TRY/missing\n"
+    end
+fi
 
 echo "$passed passed, $failed failed"
 [ "$failed" -eq 0 ]

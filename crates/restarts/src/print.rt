@@ -2,6 +2,7 @@
 
 use alu_rules::Outcome;
 use console::output::print;
+use console::output::write_refused;
 use libc::STDOUT_FILENO;
 use register::Register;
 use row::ROW_SIZE;
@@ -31,12 +32,6 @@ fn print_end(rows: u32) {
         b'\n',
     ];
     print(&line);
-}
-
-fn print_refused(number: u32) {
-    print(b"REFUSED ");
-    io::print_decimal(STDOUT_FILENO, number as u64);
-    print(b"\n");
 }
 
 // A row whose end is the register's number and value.
@@ -75,7 +70,7 @@ fn print_registers(registers: [Register; 32]) {
 // Rows end where the unit is drained, and an END says so: any other refusal is a fault.
 fn print_ended(rows: u32, number: u32, registers: [Register; 32]) {
     if number != refusal::DRAINED {
-        print_refused(number);
+        write_refused(STDOUT_FILENO, number);
         return;
     }
     print_end(rows);

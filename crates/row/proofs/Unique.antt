@@ -8,6 +8,8 @@ use Rattle.determined.specs.Determined.{Determined}
 use Rattle.determined.proofs.OneEquation.{by-value, no-requires}
 use Rattle.row.proofs.digits.tens.Kinds as tens-kinds
 use Rattle.row.proofs.digits.tens.Reads as tens-reads
+use Rattle.row.proofs.digits.hex.Kinds as hex-kinds
+use Rattle.row.proofs.digits.hex.Reads as hex-reads
 use Rattle.row.proofs.digits.units.Kinds as units-kinds
 use Rattle.row.proofs.digits.units.Reads as units-reads
 use Rattle.row.proofs.write_row.Kinds as write-row-kinds
@@ -23,6 +25,9 @@ write-row-unique = record {
 
 pub tens-unique : Determined 0 tens-kinds.ps tens-kinds.r tens-reads.requires tens-reads.Post
 tens-unique = by-value (λ κs a. no-requires) (λ κs a v w. refl)
+
+pub hex-unique : Determined 0 hex-kinds.ps hex-kinds.r hex-reads.requires hex-reads.Post
+hex-unique = by-value (λ κs a. no-requires) (λ κs a v w. refl)
 
 pub units-unique : Determined 0 units-kinds.ps units-kinds.r units-reads.requires units-reads.Post
 units-unique = by-value (λ κs a. no-requires) (λ κs a v w. refl)

@@ -32,6 +32,13 @@ pub fn units(n: u32) -> u8
     digit_of(n % 10)
 }
 
+// The last hex digit of a number.
+pub fn hex(n: u32) -> u8
+    ensures { λ r. ⌜ r ≡ digit (n % 16) ⌝ }
+{
+    digit_of(n % 16)
+}
+
 pub(crate) fn put_two(out: &mut [u8], n: u32)
     requires { ⌜ 2 ≤ length (now out) ⌝ }
     ensures { λ _. ⌜ now (out .exit) ≡ atFront (twoDigits n) (now (out .entry)) ⌝ }
@@ -49,7 +56,7 @@ pub(crate) fn put_hex(out: &mut [u8], k: usize, w: u32)
     let mut i = k;
     while i > 0 {
         i -= 1;
-        out[i] = digit_of(rest % 16);
+        out[i] = hex(rest);
         rest /= 16;
     }
 }

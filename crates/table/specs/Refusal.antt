@@ -1,4 +1,4 @@
--- The refusal numbers of document 01 by name, and the first word that is no instruction.
+-- The refusal numbers of documents 01 and 02 by name, and the first word that is no instruction.
 -- Assumes nothing.
 use Prim.Native.Nat.{ℕ, suc, _^_}
 use mathlib.Core.Bool.{cond}
@@ -34,6 +34,15 @@ ROOM = 9
 
 abbrev pub STATE : ℕ
 STATE = 10
+
+abbrev pub NAME : ℕ
+NAME = 11
+
+abbrev pub OPERANDS : ℕ
+OPERANDS = 12
+
+abbrev pub LINES : ℕ
+LINES = 13
 
 -- "an instruction word of 2^25 or more; the first such place is returned": that place, or the number of words where there is none
 unfoldable pub firstBad : List ℕ → ℕ

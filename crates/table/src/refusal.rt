@@ -25,6 +25,12 @@ pub const ROOM: u32 = 9;
 
 pub const STATE: u32 = 10;
 
+pub const NAME: u32 = 11;
+
+pub const OPERANDS: u32 = 12;
+
+pub const LINES: u32 = 13;
+
 // 2^25: a word of this or more is bad, no instruction.
 const LIMIT: u32 = 0x200_0000;
 

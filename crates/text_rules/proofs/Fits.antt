@@ -1,0 +1,112 @@
+-- A line that is accepted is some of the text, and no more than there is of it. Carried by induction on the operands, each of which is taken from what is left.
+-- Assumes nothing.
+use Prim.Native.Nat.{ℕ, suc, _+_, _*_, _^_, _≤_, _<_}
+use mathlib.Core.Path.{_≡_, refl, sym, ap, _∙_}
+use mathlib.Core.Bool.{Bool, true, false, cond, false≢true, and-eq-true-iff}
+use mathlib.Core.List.{List, [], _∷_}
+use native.Mathlib.Omega.{arith}
+use native.Mathlib.Nat.{le-refl}
+use borrow.Author.Tests.{eqb-true, leb-false, not-false}
+use lib.ListN.{length, drop, length-drop}
+use Rattle.table.proofs.Decided.{none-refused, passes, ends}
+use Rattle.text_rules.specs.declared.Operands.{Operands}
+use Rattle.text_rules.specs.declared.Line.{Line}
+use Rattle.text_rules.specs.Forms.{Operand, forms, formAt, rowNamed}
+use Rattle.text_rules.specs.Number.{isDigit, digitsIn, numberOf, saysBelow}
+use Rattle.text_rules.specs.Line.{SPACE, NEWLINE, beginsWith, endsName, nameIn, notStated, operandsIn, behindName, acceptedLine, lineOf}
+
+-- ---- what is taken from a text is no longer than it
+
+shorter : (t : Bool) (b : ℕ) (l m : List ℕ) → length m ≤ length l
+    → (length (cond t (b ∷ m) []) ≤ suc (length l)) × (length (cond t [] (b ∷ m)) ≤ suc (length l))
+shorter true b l m h = omega arith
+shorter false b l m h = omega arith
+
+-- the digits at its front
+pub digits-fit : (l : List ℕ) → length (digitsIn l) ≤ length l
+unfolding digitsIn
+digits-fit [] = le-refl 0
+digits-fit (b ∷ l) = shorter (isDigit b) b l (digitsIn l) (digits-fit l) .0
+
+-- the name at its front
+pub name-fits : (l : List ℕ) → length (nameIn l) ≤ length l
+unfolding nameIn
+name-fits [] = le-refl 0
+name-fits (b ∷ l) = shorter (endsName b) b l (nameIn l) (name-fits l) .1
+
+-- a text that begins with a byte
+pub begun : (b : ℕ) (l : List ℕ) → beginsWith b l ≡ true → l ≡ b ∷ drop 1 l
+begun b [] e = absurd (false≢true e)
+begun b (x ∷ l) e = ap (λ (y : ℕ). y ∷ l) (eqb-true x b e)
+
+-- ---- operands that are as stated
+
+stated-by : (t : Bool) (x : Operands) → cond t x notStated .stated ≡ true → (t ≡ true) × (cond t x notStated ≡ x)
+stated-by true x e = (refl, refl)
+stated-by false x e = absurd (false≢true e)
+
+-- behind the last one is a newline
+pub last-stated : (word size : ℕ) (l : List ℕ) → operandsIn [] word size l .stated ≡ true
+    → (l ≡ NEWLINE ∷ drop 1 l) × (operandsIn [] word size l ≡ record { stated = true; word = word; size = size + 1 })
+unfolding operandsIn
+last-stated word size l e = let s = stated-by _ _ e in (begun NEWLINE l (s .0), s .1)
+
+-- the first one is a space and digits that say a number below its limit, and the others stand behind them
+pub record FirstStated (o : Operand) (os : List Operand) (word size : ℕ) (l : List ℕ) : Type 0 where
+  pub spaced : l ≡ SPACE ∷ drop 1 l
+  pub says : saysBelow (o .limit) (digitsIn (drop 1 l)) ≡ true
+  pub others : operandsIn (o ∷ os) word size l
+      ≡ operandsIn os (word + numberOf (digitsIn (drop 1 l)) * 2 ^ (o .place)) (size + 1 + length (digitsIn (drop 1 l))) (drop (1 + length (digitsIn (drop 1 l))) l)
+
+-- which is so wherever they are as stated
+pub first-stated : (o : Operand) (os : List Operand) (word size : ℕ) (l : List ℕ) → operandsIn (o ∷ os) word size l .stated ≡ true → FirstStated o os word size l
+unfolding operandsIn
+first-stated o os word size l e =
+    let s = stated-by _ _ e in
+    let two = and-eq-true-iff (beginsWith SPACE l) (saysBelow (o .limit) (digitsIn (drop 1 l))) .0 (s .0) in
+    record { spaced = begun SPACE l (two .0); says = two .1; others = s .1 }
+
+operands-fit : (os : List Operand) (word size : ℕ) (l : List ℕ) → operandsIn os word size l .stated ≡ true
+    → (size < operandsIn os word size l .size) × (operandsIn os word size l .size ≤ size + length l)
+operands-fit [] word size l e =
+    let s = last-stated word size l e in
+    let some : length l ≡ suc (length (drop 1 l)) = ap length (s .0) in
+    let end : operandsIn [] word size l .size ≡ size + 1 = ap (λ (o : Operands). o .size) (s .1) in
+    (omega arith, omega arith)
+operands-fit (o ∷ os) word size l e =
+    let s = first-stated o os word size l e in
+    let digits : List ℕ = digitsIn (drop 1 l) in
+    let some : length l ≡ suc (length (drop 1 l)) = ap length (s .spaced) in
+    let rest = operands-fit os (word + numberOf digits * 2 ^ (o .place)) (size + 1 + length digits) (drop (1 + length digits) l)
+    (sym (ap (λ (o : Operands). o .stated) (s .others)) ∙ e) in
+    let end = ap (λ (o : Operands). o .size) (s .others) in
+    (omega (arith, rest .0, end), omega (arith, rest .1, end, digits-fit (drop 1 l), length-drop (1 + length digits) l))
+
+-- ---- a line that is accepted
+
+-- its name is a row's, what stands behind it is as stated, and that is its answer
+pub record Taken (l : List ℕ) : Type 0 where
+  pub named : rowNamed (nameIn l) forms < 25
+  pub stated : behindName (formAt (rowNamed (nameIn l) forms)) (nameIn l) l .stated ≡ true
+  pub answer : (let said = behindName (formAt (rowNamed (nameIn l) forms)) (nameIn l) l in lineOf l ≡ acceptedLine (said .word) (said .size))
+
+-- which is so wherever the line is not refused
+pub taken : (l : List ℕ) → lineOf l .refusal ≡ 0 → Taken l
+unfolding lineOf
+taken l e =
+    let passed = none-refused _ _ (λ (x : Line). x .refusal) refl e in
+    record {
+      named = leb-false 25 _ (passed .0);
+      stated = not-false _ (passed .1 .0);
+      answer = sym (passes _ _ _ (passed .0) (passes _ _ _ (passed .1 .0) ends));
+    }
+
+-- an accepted line has a size, and the text is at least so long
+pub line-fits : (l : List ℕ) → lineOf l .refusal ≡ 0 → (0 < lineOf l .size) × (lineOf l .size ≤ length l)
+line-fits l e =
+    let t = taken l e in
+    let name = nameIn l in
+    let f = formAt (rowNamed name forms) in
+    let fit = operands-fit (f .operands) (f .word) (length name) (drop (length name) l) (t .stated) in
+    let size = ap (λ (x : Line). x .size) (t .answer) in
+    (omega (arith, fit .0, size), omega (arith, fit .1, size, name-fits l, length-drop (length name) l))

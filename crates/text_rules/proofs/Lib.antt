@@ -1,0 +1,16 @@
+pub mod Written
+pub mod Boundaries
+pub mod Positional
+pub mod Rows
+pub mod Fits
+pub mod Words
+pub mod SameWord
+pub mod Limits
+pub mod Numerals
+pub mod Stated
+pub mod Longest
+pub mod Reading
+pub mod FirstBytes
+pub mod Texts
+pub mod FaultyLines
+pub mod Theorems

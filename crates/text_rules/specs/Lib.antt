@@ -1,0 +1,5 @@
+pub mod Letters
+pub mod Forms
+pub mod Number
+pub mod Line
+pub mod Text

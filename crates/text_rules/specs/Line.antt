@@ -1,0 +1,73 @@
+-- What the line in front of a text says.
+-- Assumes nothing.
+use Prim.Native.Nat.{ℕ, _+_, _*_, _^_}
+use mathlib.Core.Bool.{Bool, true, false, cond, not, _&&_, _||_}
+use mathlib.Core.List.{List, [], _∷_}
+use lib.Dec.{eqb, leb}
+use lib.ListN.{length, drop}
+use Rattle.table.specs.Decided.{decided}
+use Rattle.table.specs.Refusal.{NAME, OPERANDS}
+use Rattle.text_rules.specs.declared.Operands.{Operands}
+use Rattle.text_rules.specs.declared.Line.{Line}
+use Rattle.text_rules.specs.Forms.{Operand, Form, forms, formAt, rowNamed}
+use Rattle.text_rules.specs.Number.{digitsIn, numberOf, saysBelow}
+
+-- ASCII codes
+abbrev pub SPACE : ℕ
+SPACE = 32
+
+abbrev pub NEWLINE : ℕ
+NEWLINE = 10
+
+abbrev pub beginsWith : ℕ → List ℕ → Bool
+beginsWith b [] = false
+beginsWith b (x ∷ l) = eqb x b
+
+-- ---- the name
+
+abbrev pub endsName : ℕ → Bool
+endsName b = eqb b SPACE || eqb b NEWLINE
+
+-- "the text up to the first space, newline or end"
+unfoldable pub nameIn : List ℕ → List ℕ
+nameIn [] = []
+nameIn (b ∷ l) = cond (endsName b) [] (b ∷ nameIn l)
+
+-- ---- what stands behind it
+
+abbrev pub notStated : Operands
+notStated = record { stated = false; word = 0; size = 0 }
+
+-- "single spaces, decimal numbers without leading zeros", "ended by a newline": for each operand one space and its number, which is put at its place in the word; then
+-- a newline. `word` is the line's word so far, `size` what of the line is passed, and `l` what follows
+unfoldable pub operandsIn : List Operand → ℕ → ℕ → List ℕ → Operands
+operandsIn [] word size l = cond (beginsWith NEWLINE l) (record { stated = true; word = word; size = size + 1 }) notStated
+operandsIn (o ∷ os) word size l =
+    let digits : List ℕ = digitsIn (drop 1 l) in
+    cond (beginsWith SPACE l && saysBelow (o .limit) digits)
+    (operandsIn os (word + numberOf digits * 2 ^ (o .place)) (size + 1 + length digits) (drop (1 + length digits) l))
+    notStated
+
+-- behind the name of a form
+abbrev pub behindName : Form → List ℕ → List ℕ → Operands
+behindName f name l = operandsIn (f .operands) (f .word) (length name) (drop (length name) l)
+
+-- ---- the line
+
+abbrev pub acceptedLine : ℕ → ℕ → Line
+acceptedLine word size = record { refusal = 0; word = word; size = size }
+
+abbrev pub refusedLine : ℕ → Line
+refusedLine number = record { refusal = number; word = 0; size = 0 }
+
+-- "11 where the text up to the first space, newline or end is no name, 12 where anything after the name is not as stated, a missing last newline among it"
+unfoldable pub lineOf : List ℕ → Line
+lineOf l =
+    let name : List ℕ = nameIn l in
+    let row : ℕ = rowNamed name forms in
+    let said : Operands = behindName (formAt row) name l in
+    decided
+    ((leb (length forms) row, refusedLine NAME)
+    ∷ (not (said .stated), refusedLine OPERANDS)
+    ∷ [])
+    (acceptedLine (said .word) (said .size))

@@ -1,0 +1,76 @@
+// For each text file named as an argument: its name on a line, and then `WORDS` with the number of words and these, a line each; or `REFUSED` with the number and the line.
+
+use console::input::read_named;
+use console::output::print;
+use console::output::say_unreadable;
+use console::output::write_number;
+use console::output::write_refused_line;
+use libc::STDOUT_FILENO;
+use row::digits;
+use text_reader::BYTES_TO_READ;
+use text_reader::read_text;
+
+// Seven hex digits and a newline, from the last digit back.
+fn print_word(word: u32) {
+    let mut line = [b'\n'; 8];
+    let mut rest = word;
+    let mut i = 7;
+    while i > 0 {
+        i -= 1;
+        line[i] = digits::hex(rest);
+        rest /= 16;
+    }
+    print(&line);
+}
+
+fn print_words(words: &[u32]) {
+    print(b"WORDS");
+    write_number(STDOUT_FILENO, words.len() as u64);
+    print(b"\n");
+    let mut i = 0;
+    while i < words.len() {
+        print_word(words[i]);
+        i += 1;
+    }
+}
+
+fn print_text(text: &[u8]) {
+    let read = read_text(text);
+    if read.refusal != 0 {
+        write_refused_line(STDOUT_FILENO, read.refusal, read.line);
+        return;
+    }
+    let words = read.words;
+    let n = read.n.0 as usize;
+    print_words(&words[..n]);
+}
+
+fn print_named(name: &[u8]) {
+    let mut text = [0u8; BYTES_TO_READ];
+    let came = read_named(name, &mut text);
+    if came.failed {
+        say_unreadable(name);
+        return;
+    }
+    let size = came.size;
+    print_text(&text[..size]);
+}
+
+// Of an argument that is longer than any path nothing is known but that it names no file: its line is empty.
+fn print_file(number: usize) {
+    let mut name = io::buffer();
+    let length = os::arg(number, &mut name);
+    print(&name[..length]);
+    print(b"\n");
+    print_named(&name[..length]);
+}
+
+// Argument 0 is the program's own name.
+fn main() {
+    let count = os::arg_count();
+    let mut number = 1;
+    while number < count {
+        print_file(number);
+        number += 1;
+    }
+}
