@@ -14,10 +14,11 @@ use lib.ListN.{length, getD, drop, drop-of-length-le, length-drop}
 use lib.Seq.{drop-cons, drop-drop}
 use Rattle.text_rules.specs.declared.Operands.{Operands}
 use Rattle.text_rules.specs.Forms.{Operand, formAt}
-use Rattle.text_rules.specs.Number.{digitsIn, numberOf, saysBelow}
+use Rattle.text_rules.specs.Number.{isDigit, digitsIn, numberOf, saysBelow}
 use Rattle.text_rules.specs.Line.{SPACE, beginsWith, notStated, operandsIn}
 use Rattle.text_rules.proofs.Rows.{most, sound, each-limit}
-use Rattle.text_rules.proofs.Fits.{digits-fit, begun}
+use Rattle.text_rules.proofs.Fronts.{front-fits}
+use Rattle.text_rules.proofs.Fits.{begun}
 use Rattle.text_rules.proofs.Limits.{says-below, adds-at-most}
 use Rattle.text_reader.specs.declared.number.Number.{Number}
 use Rattle.text_reader.specs.Table.{formTable}
@@ -206,7 +207,7 @@ module _ {text : List ℕ} {start : ℕ} {table : List ℕ} {row at word cell : 
                 o = so-far .o + 1;
                 cell-of = omega (arith, so-far .cell-of);
                 few = omega (arith, inside);
-                within = omega (arith, read .size is-below, digits-fit (drop (at + 1) text), length-drop (at + 1) text, behind-space);
+                within = omega (arith, read .size is-below, front-fits isDigit (drop (at + 1) text), length-drop (at + 1) text, behind-space);
                 room = room-left;
                 same =
                     rw (value-is, size-is, weight-is, ← drop-drop (1 + length (digitsAt text at)) at text, ← add-assoc at 1 (length (digitsAt text at)))

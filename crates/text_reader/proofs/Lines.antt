@@ -15,8 +15,8 @@ use Rattle.table.proofs.Decided.{stops, passes, ends}
 use Rattle.text_rules.specs.declared.Operands.{Operands}
 use Rattle.text_rules.specs.declared.Line.{Line}
 use Rattle.text_rules.specs.Forms.{forms, formAt, rowNamed}
-use Rattle.text_rules.specs.Line.{nameIn, behindName, operandsIn, refusedLine, acceptedLine, lineOf}
-use Rattle.text_rules.proofs.Fits.{name-fits}
+use Rattle.text_rules.specs.Line.{inName, nameIn, behindName, operandsIn, refusedLine, acceptedLine, lineOf}
+use Rattle.text_rules.proofs.Fronts.{front-fits}
 use Rattle.text_reader.specs.declared.name.Name.{Name}
 use Rattle.text_reader.specs.Front.{NameRead}
 use Rattle.text_reader.specs.Table.{rowKeyed}
@@ -45,7 +45,7 @@ module _ (text : List ℕ) (bytes : (i : ℕ) → Fits w8 (getD text i 0)) (n : 
 
     -- the text is at least as long as its name
     pub name-within : n .size ≤ length text
-    name-within = omega (arith, size-is, name-fits text)
+    name-within = omega (arith, size-is, front-fits inName text)
 
     module _ (s : Operands) (said : s ≡ operandsIn (formAt row .operands) (formAt row .word) (n .size) (drop (n .size) text)) where
       said-is : s ≡ behindName (formAt (rowNamed (nameIn text) forms)) (nameIn text) text

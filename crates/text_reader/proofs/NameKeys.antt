@@ -11,8 +11,9 @@ use lib.Dec.{ltb, leb, eqb}
 use lib.ListN.{length, take}
 use lib.Seq.{take-all, length-take-le}
 use Rattle.text_rules.specs.Forms.{Form, forms, formAt, sameBytes, rowNamed}
+use Rattle.text_rules.proofs.Fronts.{all-map}
 use Rattle.text_rules.proofs.Positional.{AllBelow, same-length, below-power, above-power}
-use Rattle.text_rules.proofs.Rows.{both, every, same-bytes, same-as-itself, sound}
+use Rattle.text_rules.proofs.Rows.{both, every, every-all, same-bytes, same-as-itself, sound}
 use Rattle.text_rules.proofs.Stated.{found}
 use Rattle.text_reader.specs.Table.{keyOf, rowKeyed}
 use Rattle.text_reader.proofs.Behind.{at-most}
@@ -59,8 +60,7 @@ abbrev keyed : Form → Bool
 keyed f = leb (length (f .name)) 6 && every (λ b. ltb b 256) (f .name)
 
 each-byte : (l : List ℕ) → every (λ b. ltb b 256) l ≡ true → AllBelow 256 l
-each-byte [] e = tt
-each-byte (b ∷ l) e = let s = both (ltb b 256) (every (λ b. ltb b 256) l) e in (ltb-true b 256 (s .0), each-byte l (s .1))
+each-byte l e = all-map (λ b. ltb-true b 256) l (every-all (λ b. ltb b 256) l e)
 
 same-row : (name : List ℕ) → AllBelow 256 (take 7 name) → (fs : List Form) → every keyed fs ≡ true → rowKeyed (keyOf (take 7 name)) fs ≡ rowNamed name fs
 unfolding rowKeyed rowNamed

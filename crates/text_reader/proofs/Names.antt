@@ -1,20 +1,20 @@
--- The name in front of a text, a byte at a time, and its key. Carried by `drop-cons`, and by the laws of digits for the keys.
+-- The name in front of a text, a byte at a time, and its key. Carried by the laws of fronts, and by those of digits for the keys.
 -- Assumes nothing.
-use Prim.Native.Nat.{ℕ, zero, suc, _+_, _*_, _-_, _^_, _≤_, _<_}
+use Prim.Native.Nat.{ℕ, suc, _+_, _*_, _-_, _^_, _≤_, _<_}
 use mathlib.Core.Path.{_≡_, sym, ap, _∙_}
-use mathlib.Core.Bool.{Bool, true, false, cond, not}
+use mathlib.Core.Bool.{Bool, true, false}
 use mathlib.Core.List.{List, [], _∷_}
-use native.Mathlib.Numerals.{add-one}
 use native.Mathlib.Nat.{mul-le-mul-left, pow-le-pow-right, min-le-left}
 use native.Mathlib.Omega.{arith}
-use borrow.Author.Tests.{ltb-true, ltb-false, not-true, not-false}
+use borrow.Author.Tests.{ltb-true, ltb-false}
 use mir.Syntax.{w8}
 use mir.Val.{Fits}
 use lib.Dec.{ltb}
-use lib.ListN.{length, getD, take, drop, drop-of-length-le, length-take}
-use lib.Seq.{drop-cons, take-nil}
-use Rattle.text_rules.specs.Line.{endsName, nameIn}
+use lib.ListN.{length, getD, take, drop, length-take}
+use lib.Seq.{take-nil}
+use Rattle.text_rules.specs.Line.{inName, nameIn}
 use Rattle.text_rules.specs.Number.{positional}
+use Rattle.text_rules.proofs.Fronts.{all-parts, all-front, front-at-end, front-ended, front-more}
 use Rattle.text_rules.proofs.Positional.{AllBelow, below-power, at-least}
 use Rattle.text_reader.specs.Table.{keyOf}
 use Rattle.text_reader.specs.Front.{NameRead}
@@ -29,20 +29,17 @@ none-asked : (text : List ℕ) (size : ℕ) → 7 ≤ size → leftOf text size 
 none-asked text size h = let none : 7 - size ≡ 0 = omega arith in rw none
 
 none-left : (text : List ℕ) (size : ℕ) → length text ≤ size → leftOf text size ≡ []
-unfolding nameIn
-none-left text size h = rw (drop-of-length-le text h) (take-nil (7 - size))
+none-left text size h = rw (front-at-end inName text size h) (take-nil (7 - size))
 
-name-ended : (text : List ℕ) (size : ℕ) → size < length text → endsName (getD text size 0) ≡ true → leftOf text size ≡ []
-unfolding nameIn
-name-ended text size h e = rw (drop-cons text size 0 h) (simp (e, take-nil))
+name-ended : (text : List ℕ) (size : ℕ) → size < length text → inName (getD text size 0) ≡ false → leftOf text size ≡ []
+name-ended text size h e = rw (front-ended inName text size h e) (take-nil (7 - size))
 
 -- the byte, and what is left behind it
-byte-left : (text : List ℕ) (size : ℕ) → size < 7 → size < length text → endsName (getD text size 0) ≡ false
+byte-left : (text : List ℕ) (size : ℕ) → size < 7 → size < length text → inName (getD text size 0) ≡ true
     → leftOf text size ≡ getD text size 0 ∷ leftOf text (size + 1)
-unfolding nameIn
 byte-left text size k h e =
     let one : 7 - size ≡ suc (7 - (size + 1)) = omega arith in
-    rw (one, drop-cons text size 0 h, add-one) (simp e)
+    rw (one, front-more inName text size h e)
 
 -- a key and a size so far: with what is left behind them they are those of the name
 pub record NameSoFar (text : List ℕ) (key size : ℕ) : Type 0 where
@@ -55,23 +52,9 @@ all-below : (base : ℕ) (l : List ℕ) → ((i : ℕ) → getD l i 0 < base) �
 all-below base [] h = tt
 all-below base (b ∷ l) h = (h 0, all-below base l (λ i. h (suc i)))
 
-take-below : (base k : ℕ) (l : List ℕ) → AllBelow base l → AllBelow base (take k l)
-take-below base zero l h = tt
-take-below base (suc k) [] h = tt
-take-below base (suc k) (b ∷ l) h = (h .0, take-below base k l (h .1))
-
-either-below : (base : ℕ) (t : Bool) (b : ℕ) (l : List ℕ) → b < base → AllBelow base l → AllBelow base (cond t [] (b ∷ l))
-either-below base true b l h all = tt
-either-below base false b l h all = (h, all)
-
-name-below : (base : ℕ) (l : List ℕ) → AllBelow base l → AllBelow base (nameIn l)
-unfolding nameIn
-name-below base [] h = tt
-name-below base (b ∷ l) h = either-below base (endsName b) b (nameIn l) (h .0) (name-below base l (h .1))
-
 -- what is read of a name is bytes
 pub name-bytes : (text : List ℕ) → ((i : ℕ) → getD text i 0 < 256) → AllBelow 256 (take 7 (nameIn text))
-name-bytes text h = take-below 256 7 (nameIn text) (name-below 256 text (all-below 256 text h))
+name-bytes text h = all-parts _ 7 (nameIn text) (all-front inName _ text (all-below 256 text h)) .0
 
 key-fits : (text : List ℕ) → ((i : ℕ) → getD text i 0 < 256) → keyOf (leftOf text 0) < 2 ^ 57
 key-fits text h =
@@ -89,18 +72,18 @@ module _ (text : List ℕ) (key size : ℕ) (so-far : NameSoFar text key size) w
     size = omega (arith, so-far .size-of, ap length none);
   }
 
-  module _ (short : size < 7) (there : ltb size (length text) ≡ true) {t : Bool} (test : t ≡ endsName (getD text size 0)) where
+  module _ (short : size < 7) (there : ltb size (length text) ≡ true) {t : Bool} (test : t ≡ inName (getD text size 0)) where
     -- a byte that does not end the name is the next of its key
-    pub name-more : not t ≡ true → NameSoFar text (256 * key + getD text size 0) (size + 1)
+    pub name-more : t ≡ true → NameSoFar text (256 * key + getD text size 0) (size + 1)
     name-more on =
-        let left = byte-left text size short (ltb-true size (length text) there) (sym test ∙ not-true t on) in
+        let left = byte-left text size short (ltb-true size (length text) there) (sym test ∙ on) in
         record {
           key-of = sym (ap (positional 256 key) left) ∙ so-far .key-of;
           size-of = omega (arith, so-far .size-of, ap length left);
         }
 
     -- the key that it makes is on the way to the name's, and so it fits
-    pub key-room : ((i : ℕ) → Fits w8 (getD text i 0)) → not t ≡ true → 256 * key + getD text size 0 < 2 ^ 57
+    pub key-room : ((i : ℕ) → Fits w8 (getD text i 0)) → t ≡ true → 256 * key + getD text size 0 < 2 ^ 57
     key-room bytes on =
         omega (
           arith,
@@ -110,8 +93,8 @@ module _ (text : List ℕ) (key size : ℕ) (so-far : NameSoFar text key size) w
         )
 
     -- one that ends it
-    pub name-ends : not t ≡ false → NameRead (record { key = key; size = size }) text
-    name-ends off = name-read (name-ended text size (ltb-true size (length text) there) (sym test ∙ not-false t off))
+    pub name-ends : t ≡ false → NameRead (record { key = key; size = size }) text
+    name-ends off = name-read (name-ended text size (ltb-true size (length text) there) (sym test ∙ off))
 
   -- the end of the text
   pub text-ends : ltb size (length text) ≡ false → NameRead (record { key = key; size = size }) text

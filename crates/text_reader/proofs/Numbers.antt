@@ -1,40 +1,23 @@
--- The number in front of a text, a digit at a time. Carried by `drop-cons`, and by `at-least`: where a number reaches its limit early, more digits
+-- The number in front of a text, a digit at a time. Carried by the laws of fronts, and by `at-least`: where a number reaches its limit early, more digits
 -- bring it no lower.
 -- Assumes nothing.
 use Prim.Native.Nat.{ℕ, _+_, _*_, _-_, _≤_, _<_}
 use mathlib.Core.Path.{_≡_, refl, sym, ap, _∙_}
 use mathlib.Core.Bool.{Bool, true, false, _&&_, cond, false≢true}
 use mathlib.Core.List.{List, [], _∷_, map}
-use native.Mathlib.Numerals.{add-one}
 use native.Mathlib.Nat.{add-zero}
 use native.Mathlib.Omega.{arith}
 use borrow.Author.Tests.{lt-ltb, le-ltb, eq-eqb, ne-eqb, leb-true}
 use lib.Dec.{leb}
-use lib.ListN.{length, getD, drop, drop-of-length-le}
-use lib.Seq.{drop-cons, getD-drop}
+use lib.ListN.{length, getD, drop}
+use lib.Seq.{getD-drop}
+use Rattle.text_rules.specs.Front.{frontWhile}
 use Rattle.text_rules.specs.Number.{isDigit, digitsIn, positional, digitValue, numberOf, isNumeral, saysBelow}
+use Rattle.text_rules.proofs.Fronts.{front-more}
 use Rattle.text_rules.proofs.Positional.{at-least}
 use Rattle.text_rules.proofs.Rows.{both}
 use Rattle.text_reader.specs.declared.number.Number.{Number}
 use Rattle.text_reader.specs.Front.{DigitsRead, NumberRead}
-
--- ---- the digits from a byte on
-
--- there is none at the end of the text
-pub no-byte : (text : List ℕ) (end : ℕ) → length text ≤ end → digitsIn (drop end text) ≡ []
-unfolding digitsIn
-no-byte text end h = rw (drop-of-length-le text h)
-
--- nor at a byte that is no digit
-pub no-digit : (text : List ℕ) (end : ℕ) → end < length text → isDigit (getD text end 0) ≡ false → digitsIn (drop end text) ≡ []
-unfolding digitsIn
-no-digit text end h e = rw (drop-cons text end 0 h) (simp e)
-
--- a digit, and those behind it
-digit-left : (text : List ℕ) (end : ℕ) → end < length text → isDigit (getD text end 0) ≡ true
-    → digitsIn (drop end text) ≡ getD text end 0 ∷ digitsIn (drop (end + 1) text)
-unfolding digitsIn
-digit-left text end h e = rw (drop-cons text end 0 h, add-one) (simp e)
 
 -- the code of a digit is no less than that of 0
 pub digit-least : (b : ℕ) {t : Bool} → t ≡ isDigit b → t ≡ true → 48 ≤ b
@@ -46,7 +29,7 @@ first-of true b l h = refl
 first-of false b l h = absurd (omega arith)
 
 first-digit : (l : List ℕ) → 0 < length (digitsIn l) → getD (digitsIn l) 0 0 ≡ getD l 0 0
-unfolding digitsIn
+unfolding frontWhile
 first-digit [] h = refl
 first-digit (b ∷ l) h = first-of (isDigit b) b (digitsIn l) h
 
@@ -113,7 +96,7 @@ module _ (text : List ℕ) (at value end : ℕ) (so-far : NumberSoFar text at va
   pub number-more : end < length text → {t : Bool} → t ≡ isDigit (getD text end 0) → t ≡ true
       → NumberSoFar text at (10 * value + (getD text end 0 - 48)) (end + 1)
   number-more h test on =
-      let left = digit-left text end h (sym test ∙ on) in
+      let left = front-more isDigit text end h (sym test ∙ on) in
       record {
         value-of = sym (ap (λ (ds : List ℕ). positional 10 value (map digitValue ds)) left) ∙ so-far .value-of;
         size-of = omega (arith, so-far .size-of, ap length left);

@@ -1,7 +1,7 @@
 // The name in front of a line.
 
 ghost use mathlib.Core.Path.{_≡_};
-ghost use Rattle.text_rules.specs.Line.{endsName};
+ghost use Rattle.text_rules.specs.Line.{inName};
 ghost use Rattle.text_reader.specs.Front.{NameRead};
 
 // One byte more than any name of the table has: a name that is longer is none, whatever follows.
@@ -13,10 +13,10 @@ pub(crate) struct Name {
     pub(crate) size: usize,
 }
 
-fn ends_name(b: u8) -> bool
-    ensures { λ r. ⌜ r ≡ endsName b ⌝ }
+fn in_name(b: u8) -> bool
+    ensures { λ r. ⌜ r ≡ inName b ⌝ }
 {
-    b == b' ' || b == b'\n'
+    b != b' ' && b != b'\n'
 }
 
 // The bytes up to the first space, newline or end, seven at most.
@@ -25,7 +25,7 @@ pub(crate) fn name_in(text: &[u8]) -> Name
 {
     let mut key: u64 = 1;
     let mut size = 0;
-    while size < LONGEST && size < text.len() && !ends_name(text[size]) {
+    while size < LONGEST && size < text.len() && in_name(text[size]) {
         key = 256 * key + (text[size] as u64);
         size += 1;
     }

@@ -8,8 +8,9 @@ use lib.ListN.{getD, replicate}
 use Rattle.table.specs.Decided.{decided}
 use Rattle.text_rules.specs.Letters.{a, c, h, i, l, m, n, o, p, r, s, t, u, x}
 use Rattle.text_rules.specs.Forms.{Form, forms, rowNamed}
-use Rattle.text_rules.specs.Number.{digitsIn, saysBelow}
-use Rattle.text_rules.specs.Line.{nameIn, operandsIn, lineOf}
+use Rattle.text_rules.specs.Front.{frontWhile}
+use Rattle.text_rules.specs.Number.{saysBelow}
+use Rattle.text_rules.specs.Line.{operandsIn, lineOf}
 use Rattle.text_rules.specs.Text.{readFrom, readTextOf}
 use Rattle.text_rules.proofs.Written.{decimalIn, numbersText}
 
@@ -114,7 +115,7 @@ pub registers : (refusal (stated simals (31 ∷ 31 ∷ 31 ∷ 31 ∷ []))
     ∷ refusal (stated simals (32 ∷ 31 ∷ 31 ∷ 31 ∷ [])) ∷ refusal (stated simals (31 ∷ 32 ∷ 31 ∷ 31 ∷ []))
     ∷ refusal (stated simals (31 ∷ 31 ∷ 32 ∷ 31 ∷ [])) ∷ refusal (stated simals (31 ∷ 31 ∷ 31 ∷ 32 ∷ [])) ∷ [])
     ≡ (0 ∷ 12 ∷ 12 ∷ 12 ∷ 12 ∷ [])
-unfolding lineOf nameIn operandsIn digitsIn saysBelow rowNamed decided readFrom flatMap decimalIn
+unfolding lineOf frontWhile operandsIn saysBelow rowNamed decided readFrom flatMap decimalIn
 registers = refl
 
 pub other-limits : (refusal (stated li (31 ∷ 7 ∷ 65535 ∷ []))
@@ -122,7 +123,7 @@ pub other-limits : (refusal (stated li (31 ∷ 7 ∷ 65535 ∷ []))
     ∷ refusal (stated shrhi (31 ∷ 31 ∷ 15 ∷ [])) ∷ refusal (stated shrhi (31 ∷ 31 ∷ 16 ∷ []))
     ∷ refusal (stated mlhcu (31 ∷ 31 ∷ 31 ∷ [])) ∷ refusal (stated mlhcu (31 ∷ 31 ∷ 32 ∷ [])) ∷ [])
     ≡ (0 ∷ 12 ∷ 12 ∷ 12 ∷ 0 ∷ 12 ∷ 0 ∷ 12 ∷ [])
-unfolding lineOf nameIn operandsIn digitsIn saysBelow rowNamed decided readFrom flatMap decimalIn
+unfolding lineOf frontWhile operandsIn saysBelow rowNamed decided readFrom flatMap decimalIn
 other-limits = refl
 
 -- one operand too few, one too many; "nop nothing"
@@ -130,7 +131,7 @@ pub how-many : (refusal (stated au (1 ∷ 2 ∷ [])) ∷ refusal (stated au (1 �
     ∷ refusal (stated cntih (1 ∷ [])) ∷ refusal (stated cntih (1 ∷ 2 ∷ [])) ∷ refusal (stated cntih (1 ∷ 2 ∷ 3 ∷ []))
     ∷ refusal (stated nop []) ∷ refusal (stated nop (0 ∷ [])) ∷ [])
     ≡ (12 ∷ 0 ∷ 12 ∷ 12 ∷ 0 ∷ 12 ∷ 0 ∷ 12 ∷ [])
-unfolding lineOf nameIn operandsIn digitsIn saysBelow rowNamed decided readFrom flatMap decimalIn
+unfolding lineOf frontWhile operandsIn saysBelow rowNamed decided readFrom flatMap decimalIn
 how-many = refl
 
 -- `cntih 1 ` and these bytes
@@ -141,7 +142,7 @@ operand bytes = line cntih (space ∷ 49 ∷ space ∷ bytes)
 pub numerals : (refusal (operand (48 ∷ [])) ∷ refusal (operand (55 ∷ [])) ∷ refusal (operand (48 ∷ 48 ∷ [])) ∷ refusal (operand (48 ∷ 55 ∷ []))
     ∷ refusal (operand []) ∷ refusal (operand (43 ∷ 49 ∷ [])) ∷ refusal (operand (49 ∷ a ∷ [])) ∷ refusal (operand (47 ∷ [])) ∷ refusal (operand (58 ∷ [])) ∷ [])
     ≡ (0 ∷ 0 ∷ 12 ∷ 12 ∷ 12 ∷ 12 ∷ 12 ∷ 12 ∷ 12 ∷ [])
-unfolding lineOf nameIn operandsIn digitsIn saysBelow rowNamed decided readFrom flatMap
+unfolding lineOf frontWhile operandsIn saysBelow rowNamed decided readFrom flatMap
 numerals = refl
 
 -- ---- spaces and newlines
@@ -149,7 +150,7 @@ numerals = refl
 -- "ended by a newline", "a missing last newline among it": `nop` without it, `cntih 1 2` without it
 pub last-newline : (refusal nop ∷ refusal (nop ++ newline ∷ []) ∷ refusal (cntih ++ space ∷ 49 ∷ space ∷ 50 ∷ []) ∷ [])
     ≡ (12 ∷ 0 ∷ 12 ∷ [])
-unfolding lineOf nameIn operandsIn digitsIn saysBelow rowNamed decided readFrom flatMap
+unfolding lineOf frontWhile operandsIn saysBelow rowNamed decided readFrom flatMap
 last-newline = refl
 
 -- "11 where the text up to the first space, newline or end is no name": a blank line, a leading space, a tab or a carriage return behind the name, upper case, a name
@@ -157,19 +158,19 @@ last-newline = refl
 pub no-names : (refusal (newline ∷ []) ∷ refusal (space ∷ line nop []) ∷ refusal (line nop (tab ∷ [])) ∷ refusal (line nop (return ∷ []))
     ∷ refusal (line (78 ∷ 79 ∷ 80 ∷ []) []) ∷ refusal (line (78 ∷ o ∷ p ∷ []) []) ∷ refusal (n ∷ o ∷ []) ∷ [])
     ≡ (11 ∷ 11 ∷ 11 ∷ 11 ∷ 11 ∷ 11 ∷ 11 ∷ [])
-unfolding lineOf nameIn operandsIn digitsIn saysBelow rowNamed decided readFrom flatMap
+unfolding lineOf frontWhile operandsIn saysBelow rowNamed decided readFrom flatMap
 no-names = refl
 
 -- "single spaces": two of them, one behind the last operand and one behind a name without operands, a tab between operands, a carriage return behind the last one
 pub single-spaces : (refusal (line cntih (space ∷ space ∷ 49 ∷ space ∷ 50 ∷ [])) ∷ refusal (line cntih (space ∷ 49 ∷ space ∷ 50 ∷ space ∷ [])) ∷ refusal (line nop (space ∷ []))
     ∷ refusal (line cntih (space ∷ 49 ∷ tab ∷ 50 ∷ [])) ∷ refusal (line cntih (space ∷ 49 ∷ space ∷ 50 ∷ return ∷ [])) ∷ [])
     ≡ (12 ∷ 12 ∷ 12 ∷ 12 ∷ 12 ∷ [])
-unfolding lineOf nameIn operandsIn digitsIn saysBelow rowNamed decided readFrom flatMap
+unfolding lineOf frontWhile operandsIn saysBelow rowNamed decided readFrom flatMap
 single-spaces = refl
 
 -- where name and operands are wrong the name answers: `xx 99`, `nopx 00`
 pub name-first : (refusal (stated (x ∷ x ∷ []) (99 ∷ [])) ∷ refusal (line (nop ++ x ∷ []) (space ∷ 48 ∷ 48 ∷ [])) ∷ []) ≡ (11 ∷ 11 ∷ [])
-unfolding lineOf nameIn operandsIn digitsIn saysBelow rowNamed decided readFrom flatMap decimalIn
+unfolding lineOf frontWhile operandsIn saysBelow rowNamed decided readFrom flatMap decimalIn
 name-first = refl
 
 -- ---- lines
@@ -183,7 +184,7 @@ empty-text = refl
 pub first-faulty : (faulty (stated au []) ∷ faulty (nops 1 ++ stated au []) ∷ refusal (nops 1 ++ stated au []) ∷ faulty (stated au [] ++ newline ∷ [])
     ∷ refusal (stated au [] ++ newline ∷ []) ∷ faulty (nops 2 ++ newline ∷ []) ∷ refusal (nops 2 ++ newline ∷ []) ∷ [])
     ≡ (1 ∷ 2 ∷ 12 ∷ 1 ∷ 12 ∷ 3 ∷ 11 ∷ [])
-unfolding lineOf nameIn operandsIn digitsIn saysBelow rowNamed decided readFrom flatMap decimalIn
+unfolding lineOf frontWhile operandsIn saysBelow rowNamed decided readFrom flatMap decimalIn
 first-faulty = refl
 
 -- "13 for a 65th line": 64 lines are accepted; a 65th is refused, a good one, a blank one, any byte; a fault in line 64 answers first
@@ -191,7 +192,7 @@ pub how-many-lines : (refusal (nops 64) ∷ faulty (nops 64) ∷ readTextOf (nop
     ∷ refusal (nops 65) ∷ faulty (nops 65) ∷ refusal (nops 64 ++ newline ∷ []) ∷ faulty (nops 64 ++ newline ∷ []) ∷ refusal (nops 64 ++ 0 ∷ [])
     ∷ refusal (nops 63 ++ stated au [] ++ nops 1) ∷ faulty (nops 63 ++ stated au [] ++ nops 1) ∷ refusal (nops 63 ++ newline ∷ nops 1) ∷ [])
     ≡ (0 ∷ 0 ∷ 64 ∷ 13 ∷ 65 ∷ 13 ∷ 65 ∷ 13 ∷ 12 ∷ 64 ∷ 11 ∷ [])
-unfolding lineOf nameIn operandsIn digitsIn saysBelow rowNamed decided readFrom flatMap decimalIn
+unfolding lineOf frontWhile operandsIn saysBelow rowNamed decided readFrom flatMap decimalIn
 how-many-lines = refl
 
 -- ---- words
@@ -200,9 +201,9 @@ how-many-lines = refl
 pub some-words : (word (stated li (1 ∷ 0 ∷ 5 ∷ [])) ∷ word (stated li (7 ∷ 7 ∷ 17 ∷ [])) ∷ word (stated au (2 ∷ 1 ∷ 1 ∷ [])) ∷ word (stated au (7 ∷ 12 ∷ 17 ∷ []))
     ∷ word (stated simals (7 ∷ 12 ∷ 17 ∷ 22 ∷ [])) ∷ word (stated simahs (7 ∷ 12 ∷ 17 ∷ 22 ∷ [])) ∷ word (stated slmshs (7 ∷ 12 ∷ 17 ∷ 22 ∷ [])) ∷ [])
     ≡ (0x00000A1 ∷ 0x0E00227 ∷ 0x1810422 ∷ 0x1814587 ∷ 0x10B4587 ∷ 0x11B4587 ∷ 0x17B4587 ∷ [])
-unfolding lineOf nameIn operandsIn digitsIn saysBelow rowNamed decided readFrom flatMap decimalIn
+unfolding lineOf frontWhile operandsIn saysBelow rowNamed decided readFrom flatMap decimalIn
 some-words = refl
 
 pub in-order : readTextOf (stated li (1 ∷ 0 ∷ 5 ∷ []) ++ stated au (2 ∷ 1 ∷ 1 ∷ []) ++ nops 1) .words ≡ 0x00000A1 ∷ 0x1810422 ∷ 0x1800000 ∷ replicate 61 0
-unfolding lineOf nameIn operandsIn digitsIn saysBelow rowNamed decided readFrom flatMap decimalIn
+unfolding lineOf frontWhile operandsIn saysBelow rowNamed decided readFrom flatMap decimalIn
 in-order = refl

@@ -6,18 +6,20 @@ use mathlib.Core.Path.{_≡_, refl, sym, ap, subst, _∙_}
 use mathlib.Core.Bool.{true, cond}
 use mathlib.Core.List.{List, [], _∷_, _++_, flatMap, append-assoc}
 use native.Mathlib.Omega.{arith}
-use borrow.Author.Tests.{leb-true}
 use lib.Dec.{leb}
 use lib.ListN.{length, drop, length-append, length-map}
 use Rattle.table.specs.Refusal.{NAME, OPERANDS, LINES}
 use Rattle.text_rules.specs.declared.Line.{Line}
 use Rattle.text_rules.specs.declared.ReadText.{ReadText}
 use Rattle.text_rules.specs.Forms.{Form, forms, formAt, rowNamed}
-use Rattle.text_rules.specs.Line.{NEWLINE, endsName, nameIn, refusedLine, lineOf}
+use Rattle.text_rules.specs.Front.{frontWhile}
+use Rattle.text_rules.specs.Number.{isDigit}
+use Rattle.text_rules.specs.Line.{NEWLINE, inName, nameIn, refusedLine, lineOf}
 use Rattle.text_rules.specs.Text.{refusedText, readFrom, readTextOf}
 use Rattle.text_rules.proofs.Written.{decimal, numbersText}
-use Rattle.text_rules.proofs.Numerals.{AllDigits, digit-bounds, decimal-says}
-use Rattle.text_rules.proofs.Rows.{both, every, isLetter, sound}
+use Rattle.text_rules.proofs.Fronts.{All, all-map, all-append}
+use Rattle.text_rules.proofs.Numerals.{digit-bounds, decimal-says}
+use Rattle.text_rules.proofs.Rows.{every-all, isLetter, letter-bounds, sound}
 use Rattle.text_rules.proofs.Stated.{stated-line, accepted-line}
 use Rattle.text_rules.proofs.Reading.{one-too-many, refused-there, refused-line}
 use Rattle.text_rules.proofs.Texts.{wordOfLine, wordsOf, behind-lines, accepted-text}
@@ -26,29 +28,19 @@ use Rattle.text_rules.proofs.Texts.{wordOfLine, wordsOf, behind-lines, 
 
 -- no byte is a newline
 abbrev pub NoNewline : List ℕ → Type 0
-NoNewline [] = Unit {0}
-NoNewline (b ∷ l) = (b ≡ NEWLINE → ⊥) × NoNewline l
+NoNewline l = All (λ (b : ℕ). b ≡ NEWLINE → ⊥) l
 
-none-in-both : (xs ys : List ℕ) → NoNewline xs → NoNewline ys → NoNewline (xs ++ ys)
-none-in-both [] ys hx hy = hy
-none-in-both (x ∷ xs) ys hx hy = (hx .0, none-in-both xs ys (hx .1) hy)
+no-letter : (b : ℕ) → isLetter b ≡ true → b ≡ NEWLINE → ⊥
+no-letter b e z = let bounds = letter-bounds b e in omega arith
 
-none-in-name : (name : List ℕ) → every isLetter name ≡ true → NoNewline name
-none-in-name [] e = tt
-none-in-name (b ∷ name) e =
-    let two = both (isLetter b) (every isLetter name) e in
-    let low = leb-true 97 b (both (leb 97 b) (leb b 122) (two .0) .0) in
-    (λ z. omega arith, none-in-name name (two .1))
-
-none-in-digits : (ds : List ℕ) → AllDigits ds → NoNewline ds
-none-in-digits [] h = tt
-none-in-digits (d ∷ ds) h = let bounds = digit-bounds d (h .0) in (λ z. omega arith, none-in-digits ds (h .1))
+no-digit : (b : ℕ) → isDigit b ≡ true → b ≡ NEWLINE → ⊥
+no-digit b e z = let bounds = digit-bounds b e in omega arith
 
 none-in-numbers : (vs : List ℕ) → NoNewline (numbersText vs)
 unfolding flatMap
 none-in-numbers [] = tt
 none-in-numbers (v ∷ vs) =
-    (λ z. omega arith, none-in-both (decimal v) (numbersText vs) (none-in-digits (decimal v) (decimal-says v .digits)) (none-in-numbers vs))
+    (λ z. omega arith, all-append _ (decimal v) (numbersText vs) (all-map no-digit (decimal v) (decimal-says v .digits)) (none-in-numbers vs))
 
 -- what stands before the first newline of a text
 first-newline : (xs ys a b : List ℕ) → NoNewline xs → NoNewline ys → xs ++ NEWLINE ∷ a ≡ ys ++ NEWLINE ∷ b → xs ≡ ys
@@ -64,9 +56,9 @@ first-newline (x ∷ xs) (y ∷ ys) a b hx hy e =
 
 -- its name does not go beyond it
 name-before : (line rest : List ℕ) → nameIn (line ++ NEWLINE ∷ rest) ≡ nameIn line
-unfolding nameIn
+unfolding frontWhile
 name-before [] rest = refl
-name-before (b ∷ line) rest = ap (λ (m : List ℕ). cond (endsName b) [] (b ∷ m)) (name-before line rest)
+name-before (b ∷ line) rest = ap (λ (m : List ℕ). cond (inName b) (b ∷ m) []) (name-before line rest)
 
 newline-there : (xs ys : List ℕ) → NoNewline (xs ++ NEWLINE ∷ ys) → ⊥
 newline-there [] ys h = h .0 refl
@@ -89,7 +81,7 @@ accepted-alone line rest other h e =
     let behind : List ℕ = drop (lineOf (line ++ NEWLINE ∷ rest) .size) (line ++ NEWLINE ∷ rest) in
     let same : line ≡ body
     = first-newline line body rest behind h
-    (none-in-both (f .name) (numbersText (s .numbers)) (none-in-name (f .name) (sound (s .row) (s .a-row) .letters)) (none-in-numbers (s .numbers)))
+    (all-append _ (f .name) (numbersText (s .numbers)) (all-map no-letter (f .name) (every-all isLetter (f .name) (sound (s .row) (s .a-row) .letters))) (none-in-numbers (s .numbers)))
     (s .written ∙ append-assoc body (NEWLINE ∷ []) behind) in
     ap (λ (x : List ℕ). lineOf (x ++ NEWLINE ∷ other) .refusal) same
     ∙ ap (λ (x : List ℕ). lineOf x .refusal) (sym (append-assoc body (NEWLINE ∷ []) other))

@@ -13,29 +13,20 @@ use lib.Seq.{take-all, take-nil, take-append-add, drop-append-seam, length-take-
 use Rattle.table.specs.Decided.{decided}
 use Rattle.table.specs.Refusal.{NAME, OPERANDS}
 use Rattle.text_rules.specs.declared.Line.{Line}
-use Rattle.text_rules.specs.Letters.{l, s}
+use Rattle.text_rules.specs.Letters.{s}
 use Rattle.text_rules.specs.Forms.{forms, formAt, rowNamed}
-use Rattle.text_rules.specs.Number.{digitsIn, saysBelow}
-use Rattle.text_rules.specs.Line.{endsName, nameIn, operandsIn, refusedLine, lineOf}
+use Rattle.text_rules.specs.Front.{frontWhile}
+use Rattle.text_rules.specs.Number.{saysBelow}
+use Rattle.text_rules.specs.Line.{inName, nameIn, operandsIn, refusedLine, lineOf}
 use Rattle.text_rules.specs.Text.{refusedText, readFrom, readTextOf, bytesToRead}
 use Rattle.text_rules.proofs.Written.{decimalIn, lineText}
+use Rattle.text_rules.proofs.Fronts.{front-cut}
 use Rattle.text_rules.proofs.Rows.{sound}
 use Rattle.text_rules.proofs.Stated.{found, stated-line, accepted-line}
 use Rattle.text_rules.proofs.Longest.{longest-written}
 use Rattle.text_rules.proofs.Reading.{one-too-many, refused-there, goes-on, either, refused-line}
 
 -- ---- the name of a text that is cut
-
-cut-if : (t : Bool) (b n : ℕ) (k l : List ℕ) → k ≡ take n l → cond t [] (b ∷ k) ≡ take (suc n) (cond t [] (b ∷ l))
-cut-if true b n k l e = refl
-cut-if false b n k l e = ap (λ (r : List ℕ). b ∷ r) e
-
--- is cut as well
-cut-name : (n : ℕ) (text : List ℕ) → nameIn (take n text) ≡ take n (nameIn text)
-unfolding nameIn
-cut-name zero text = refl
-cut-name (suc n) [] = refl
-cut-name (suc n) (b ∷ text) = cut-if (endsName b) b n (nameIn (take n text)) (nameIn text) (cut-name n text)
 
 -- a name of more than six bytes is no row's
 long-name : (name : List ℕ) → 6 < length name → leb 25 (rowNamed name forms) ≡ true
@@ -98,7 +89,7 @@ cut-refused n text h isnt =
     (λ cut-isnt.
     refused-line (take n text) cut-isnt
     ∙ ap (λ (t : Bool). refusedLine (cond t NAME OPERANDS))
-    (ap (λ (x : List ℕ). leb 25 (rowNamed x forms)) (cut-name n text) ∙ cut-row n (nameIn text) (omega arith))
+    (ap (λ (x : List ℕ). leb 25 (rowNamed x forms)) (front-cut inName n text) ∙ cut-row n (nameIn text) (omega arith))
     ∙ sym (refused-line text isnt))
 
 -- ---- a text that is cut
@@ -150,5 +141,5 @@ longestText = flatMap (λ (line : List ℕ). line) (replicate 64 (lineText (form
 
 -- of this text one byte fewer is accepted, and the text is refused
 pub no-fewer-bytes : (readTextOf (take (bytesToRead - 1) longestText) .refusal ≡ 0) × (readTextOf longestText .refusal ≡ 13)
-unfolding lineOf nameIn operandsIn digitsIn saysBelow rowNamed decided readFrom flatMap decimalIn
+unfolding lineOf frontWhile operandsIn saysBelow rowNamed decided readFrom flatMap decimalIn
 no-fewer-bytes = (refl, refl)

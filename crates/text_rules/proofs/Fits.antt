@@ -2,10 +2,9 @@
 -- Assumes nothing.
 use Prim.Native.Nat.{ℕ, suc, _+_, _*_, _^_, _≤_, _<_}
 use mathlib.Core.Path.{_≡_, refl, sym, ap, _∙_}
-use mathlib.Core.Bool.{Bool, true, false, cond, false≢true, and-eq-true-iff}
+use mathlib.Core.Bool.{Bool, true, false, cond, false≢true}
 use mathlib.Core.List.{List, [], _∷_}
 use native.Mathlib.Omega.{arith}
-use native.Mathlib.Nat.{le-refl}
 use borrow.Author.Tests.{eqb-true, leb-false, not-false}
 use lib.ListN.{length, drop, length-drop}
 use Rattle.table.proofs.Decided.{none-refused, passes, ends}
@@ -13,26 +12,9 @@ use Rattle.text_rules.specs.declared.Operands.{Operands}
 use Rattle.text_rules.specs.declared.Line.{Line}
 use Rattle.text_rules.specs.Forms.{Operand, forms, formAt, rowNamed}
 use Rattle.text_rules.specs.Number.{isDigit, digitsIn, numberOf, saysBelow}
-use Rattle.text_rules.specs.Line.{SPACE, NEWLINE, beginsWith, endsName, nameIn, notStated, operandsIn, behindName, acceptedLine, lineOf}
-
--- ---- what is taken from a text is no longer than it
-
-shorter : (t : Bool) (b : ℕ) (l m : List ℕ) → length m ≤ length l
-    → (length (cond t (b ∷ m) []) ≤ suc (length l)) × (length (cond t [] (b ∷ m)) ≤ suc (length l))
-shorter true b l m h = omega arith
-shorter false b l m h = omega arith
-
--- the digits at its front
-pub digits-fit : (l : List ℕ) → length (digitsIn l) ≤ length l
-unfolding digitsIn
-digits-fit [] = le-refl 0
-digits-fit (b ∷ l) = shorter (isDigit b) b l (digitsIn l) (digits-fit l) .0
-
--- the name at its front
-pub name-fits : (l : List ℕ) → length (nameIn l) ≤ length l
-unfolding nameIn
-name-fits [] = le-refl 0
-name-fits (b ∷ l) = shorter (endsName b) b l (nameIn l) (name-fits l) .1
+use Rattle.text_rules.specs.Line.{SPACE, NEWLINE, beginsWith, inName, nameIn, notStated, operandsIn, behindName, acceptedLine, lineOf}
+use Rattle.text_rules.proofs.Fronts.{front-fits}
+use Rattle.text_rules.proofs.Rows.{both}
 
 -- a text that begins with a byte
 pub begun : (b : ℕ) (l : List ℕ) → beginsWith b l ≡ true → l ≡ b ∷ drop 1 l
@@ -63,7 +45,7 @@ pub first-stated : (o : Operand) (os : List Operand) (word size : ℕ) (l : List
 unfolding operandsIn
 first-stated o os word size l e =
     let s = stated-by _ _ e in
-    let two = and-eq-true-iff (beginsWith SPACE l) (saysBelow (o .limit) (digitsIn (drop 1 l))) .0 (s .0) in
+    let two = both (beginsWith SPACE l) (saysBelow (o .limit) (digitsIn (drop 1 l))) (s .0) in
     record { spaced = begun SPACE l (two .0); says = two .1; others = s .1 }
 
 operands-fit : (os : List Operand) (word size : ℕ) (l : List ℕ) → operandsIn os word size l .stated ≡ true
@@ -80,7 +62,7 @@ operands-fit (o ∷ os) word size l e =
     let rest = operands-fit os (word + numberOf digits * 2 ^ (o .place)) (size + 1 + length digits) (drop (1 + length digits) l)
     (sym (ap (λ (o : Operands). o .stated) (s .others)) ∙ e) in
     let end = ap (λ (o : Operands). o .size) (s .others) in
-    (omega (arith, rest .0, end), omega (arith, rest .1, end, digits-fit (drop 1 l), length-drop (1 + length digits) l))
+    (omega (arith, rest .0, end), omega (arith, rest .1, end, front-fits isDigit (drop 1 l), length-drop (1 + length digits) l))
 
 -- ---- a line that is accepted
 
@@ -109,4 +91,4 @@ line-fits l e =
     let f = formAt (rowNamed name forms) in
     let fit = operands-fit (f .operands) (f .word) (length name) (drop (length name) l) (t .stated) in
     let size = ap (λ (x : Line). x .size) (t .answer) in
-    (omega (arith, fit .0, size), omega (arith, fit .1, size, name-fits l, length-drop (length name) l))
+    (omega (arith, fit .0, size), omega (arith, fit .1, size, front-fits inName l, length-drop (length name) l))

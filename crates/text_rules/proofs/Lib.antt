@@ -1,4 +1,5 @@
 pub mod Written
+pub mod Fronts
 pub mod Boundaries
 pub mod Positional
 pub mod Rows

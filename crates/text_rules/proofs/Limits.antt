@@ -3,7 +3,7 @@
 -- Assumes nothing.
 use Prim.Native.Nat.{ℕ, zero, suc, _+_, _-_, _*_, _^_, _≤_, _<_}
 use mathlib.Core.Path.{_≡_, refl, sym, ap, subst, _∙_}
-use mathlib.Core.Bool.{true, and-eq-true-iff}
+use mathlib.Core.Bool.{true}
 use mathlib.Core.List.{List, [], _∷_, _++_}
 use native.Mathlib.Omega.{arith}
 use native.Mathlib.Nat.{mul-le-mul-right}
@@ -23,15 +23,16 @@ use Rattle.text_rules.specs.Forms.{Operand, forms, formAt, rowNamed}
 use Rattle.text_rules.specs.Number.{isNumeral, digitsIn, numberOf, saysBelow}
 use Rattle.text_rules.specs.Line.{nameIn, operandsIn, lineOf}
 use Rattle.text_rules.specs.Text.{acceptedText, refusedText, readFrom, mostLines, readTextOf}
+use Rattle.text_rules.proofs.Fronts.{all-append}
 use Rattle.text_rules.proofs.Positional.{AllBelow}
-use Rattle.text_rules.proofs.Rows.{most, sound}
+use Rattle.text_rules.proofs.Rows.{both, most, sound}
 use Rattle.text_rules.proofs.Fits.{last-stated, first-stated, taken}
 
 -- ---- a line
 
 pub says-below : (limit : ℕ) (digits : List ℕ) → saysBelow limit digits ≡ true → numberOf digits < limit
 unfolding saysBelow
-says-below limit digits e = ltb-true _ _ (and-eq-true-iff (isNumeral digits) (ltb (numberOf digits) limit) .0 e .1)
+says-below limit digits e = ltb-true _ _ (both (isNumeral digits) (ltb (numberOf digits) limit) e .1)
 
 -- a number below its operand's limit adds no more than the largest one
 pub adds-at-most : (o : Operand) (v : ℕ) → v < o .limit → v * 2 ^ (o .place) ≤ (o .limit - 1) * 2 ^ (o .place)
@@ -58,10 +59,6 @@ line-word l e =
 
 -- ---- a text
 
-all-below-append : (base : ℕ) (xs ys : List ℕ) → AllBelow base xs → AllBelow base ys → AllBelow base (xs ++ ys)
-all-below-append base [] ys hx hy = hy
-all-below-append base (x ∷ xs) ys hx hy = (hx .0, all-below-append base xs ys (hx .1) hy)
-
 -- what reading answers is a refusal behind at most 64 good lines, or at most 64 words below 2^25
 module _ (P : ReadText → Type 0) (refused : (number good : ℕ) → good ≤ 64 → P (refusedText number good))
     (accepted : (words : List ℕ) → length words ≤ 64 → AllBelow (2 ^ 25) words → P (acceptedText words)) where
@@ -74,7 +71,7 @@ module _ (P : ReadText → Type 0) (refused : (number good : ℕ) → good ≤ 6
       apart _ _ P _ _ (λ _. refused (lineOf l .refusal) (length words) (omega arith)) (λ good.
       let zero-refusal : lineOf l .refusal ≡ 0 = eqb-true _ _ (not-false _ good) in
       subst P ends (from-here left (words ++ lineOf l .word ∷ []) (drop (lineOf l .size) l) (simp length-append (omega arith))
-      (all-below-append (2 ^ 25) words (lineOf l .word ∷ []) b (line-word l zero-refusal, tt)))))
+      (all-append _ words (lineOf l .word ∷ []) b (line-word l zero-refusal, tt)))))
 
   pub every-answer : (l : List ℕ) → P (readTextOf l)
   every-answer l = from-here mostLines [] l (lit≤ tt) tt

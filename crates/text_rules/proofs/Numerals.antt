@@ -3,34 +3,31 @@
 -- Assumes nothing.
 use Prim.Native.Nat.{ℕ, zero, suc, _+_, _*_, _-_, _/_, _%_, _≤_, _<_}
 use mathlib.Core.Path.{_≡_, refl, sym, ap, _∙_}
-use mathlib.Core.Bool.{Bool, true, false, cond, not, false≢true, and-eq-true-iff}
+use mathlib.Core.Bool.{Bool, true, false, not, false≢true}
 use mathlib.Core.List.{List, [], _∷_, _++_, map, map-append}
 use native.Mathlib.Omega.{arith}
 use borrow.Author.Tests.{ltb-true, ltb-false, lt-ltb, le-ltb, leb-true, le-leb, eqb-false, ne-eqb, not-true}
 use lib.Dec.{ltb, leb, eqb}
 use lib.ListN.{length, take, drop, length-map, length-drop, take-append-drop}
 use lib.Seq.{length-take-le}
-use Rattle.text_rules.specs.Number.{isDigit, digitsIn, positional, digitValue, numberOf, isNumeral}
+use Rattle.text_rules.specs.Number.{isDigit, positional, digitValue, numberOf, isNumeral}
 use Rattle.text_rules.proofs.Written.{decimalIn, decimal}
+use Rattle.text_rules.proofs.Fronts.{All, all-append, all-parts}
+use Rattle.text_rules.proofs.Rows.{both}
 use Rattle.text_rules.proofs.Positional.{AllBelow, positional-append, snoc, same-length, at-least}
 
 -- ---- digits
 
 -- each byte is a digit
 abbrev pub AllDigits : List ℕ → Type 0
-AllDigits [] = Unit {0}
-AllDigits (b ∷ l) = (isDigit b ≡ true) × AllDigits l
+AllDigits l = All (λ (b : ℕ). isDigit b ≡ true) l
 
 -- its code is from 48 to 57
 pub digit-bounds : (b : ℕ) → isDigit b ≡ true → (48 ≤ b) × (b ≤ 57)
-digit-bounds b e = let two = and-eq-true-iff (leb 48 b) (leb b 57) .0 e in (leb-true 48 b (two .0), leb-true b 57 (two .1))
+digit-bounds b e = let two = both (leb 48 b) (leb b 57) e in (leb-true 48 b (two .0), leb-true b 57 (two .1))
 
 is-digit : (d : ℕ) → d < 10 → isDigit (48 + d) ≡ true
 is-digit d h = rw (le-leb 48 (48 + d) (omega arith), le-leb (48 + d) 57 (omega arith))
-
-digits-append : (xs ys : List ℕ) → AllDigits xs → AllDigits ys → AllDigits (xs ++ ys)
-digits-append [] ys hx hy = hy
-digits-append (x ∷ xs) ys hx hy = (hx .0, digits-append xs ys (hx .1) hy)
 
 values-below : (ds : List ℕ) → AllDigits ds → AllBelow 10 (map digitValue ds)
 values-below [] h = tt
@@ -77,7 +74,7 @@ next-digit most v h n =
     let ds = decimalIn most (v / 10) in
     let says = n .says in
     rw (le-ltb v 10 h) (record {
-      digits = digits-append ds _ (n .digits) (is-digit (v % 10) (omega arith), tt);
+      digits = all-append _ ds _ (n .digits) (is-digit (v % 10) (omega arith), tt);
       numeral = longer ds _ (n .numeral) (omega arith);
       says = number-snoc ds (48 + v % 10) ∙ omega arith;
     })
@@ -110,18 +107,13 @@ first-counts (b ∷ c ∷ front) (d ∷ back) h some behind e =
     let more = at-least 10 (10 * 0 + (b - 48)) (map digitValue (c ∷ front)) (omega arith) in
     omega arith
 
-parts-digits : (n : ℕ) (ds : List ℕ) → AllDigits ds → AllDigits (take n ds) × AllDigits (drop n ds)
-parts-digits zero ds h = (tt, h)
-parts-digits (suc n) [] h = (tt, tt)
-parts-digits (suc n) (d ∷ ds) h = let rest = parts-digits n ds (h .1) in ((h .0, rest .0), rest .1)
-
 -- a numeral that is longer says another number
 longer-differs : (v : ℕ) (xs ys : List ℕ) → Numeral v xs → Numeral v ys → length xs < length ys → 0 < length xs → ⊥
 longer-differs v xs ys nx ny h some =
     let k = length ys - length xs in
     let front = take k ys in
     let back = drop k ys in
-    let parts = parts-digits k ys (ny .digits) in
+    let parts = all-parts _ k ys (ny .digits) in
     let whole : front ++ back ≡ ys = take-append-drop k ys in
     let n : length front ≡ k = length-take-le k ys (omega arith) in
     let m : length back ≡ length xs = length-drop k ys ∙ omega arith in
@@ -155,31 +147,3 @@ one-numeral v xs ys nx ny = go (ltb (length xs) (length ys)) (ltb (length ys) (l
 -- and `decimal` writes it
 pub decimal-of : (ds : List ℕ) → AllDigits ds → isNumeral ds ≡ true → decimal (numberOf ds) ≡ ds
 decimal-of ds h e = one-numeral (numberOf ds) (decimal (numberOf ds)) ds (decimal-says (numberOf ds)) (record { digits = h; numeral = e; says = refl })
-
--- ---- the digits at the front of a text
-
-all-digits-if : (b : ℕ) (m : List ℕ) (t : Bool) → isDigit b ≡ t → AllDigits m → AllDigits (cond t (b ∷ m) [])
-all-digits-if b m true e h = (e, h)
-all-digits-if b m false e h = tt
-
--- are digits
-pub digits-in : (l : List ℕ) → AllDigits (digitsIn l)
-unfolding digitsIn
-digits-in [] = tt
-digits-in (b ∷ l) = all-digits-if b (digitsIn l) (isDigit b) refl (digits-in l)
-
--- are those that are written there, and those that begin what follows
-pub digits-then : (ds rest : List ℕ) → AllDigits ds → digitsIn (ds ++ rest) ≡ ds ++ digitsIn rest
-unfolding digitsIn
-digits-then [] rest h = refl
-digits-then (d ∷ ds) rest h = rw (h .0) (ap (λ (m : List ℕ). d ∷ m) (digits-then ds rest (h .1)))
-
-front-if : (t : Bool) (b : ℕ) (l m : List ℕ) → m ++ drop (length m) l ≡ l → cond t (b ∷ m) [] ++ drop (length (cond t (b ∷ m) [])) (b ∷ l) ≡ b ∷ l
-front-if true b l m e = ap (λ (r : List ℕ). b ∷ r) e
-front-if false b l m e = refl
-
--- and stand in front of what is behind them
-pub digits-front : (l : List ℕ) → digitsIn l ++ drop (length (digitsIn l)) l ≡ l
-unfolding digitsIn
-digits-front [] = refl
-digits-front (b ∷ l) = front-if (isDigit b) b l (digitsIn l) (digits-front l)

@@ -8,11 +8,11 @@ use native.Mathlib.Nat.{add-zero, pow-zero, mul-one, le-refl, le-trans, lt-of-lt
 use native.Mathlib.Nat.{mul-comm, mul-assoc, add-mul, mul-add-div, div-eq-of-lt, le-mul-of-pos-right, pow-succ'}
 use lib.ListN.{length}
 use Rattle.text_rules.specs.Number.{positional}
+use Rattle.text_rules.proofs.Fronts.{All}
 
 -- each digit is below the base
 abbrev pub AllBelow : ℕ → List ℕ → Type 0
-AllBelow base [] = Unit {0}
-AllBelow base (d ∷ ds) = (d < base) × AllBelow base ds
+AllBelow base ds = All (λ (d : ℕ). d < base) ds
 
 pub positional-append : (base before : ℕ) (xs ys : List ℕ) → positional base before (xs ++ ys) ≡ positional base (positional base before xs) ys
 positional-append base before [] ys = refl

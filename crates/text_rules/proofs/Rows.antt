@@ -1,33 +1,52 @@
 -- What holds of each row of the table of forms. Carried by one test that is computed over all of its rows, and by a law that brings it to each.
 -- Assumes nothing.
 use Prim.Native.Nat.{ℕ, zero, suc, _+_, _*_, _-_, _^_, _≤_, _<_}
-use mathlib.Core.Path.{_≡_, refl, sym, _∙_}
-use mathlib.Core.Bool.{Bool, true, false, _&&_, true≢false}
+use mathlib.Core.Path.{_≡_, refl, sym, ap, _∙_}
+use mathlib.Core.Bool.{Bool, true, false, _&&_, true≢false, and-eq-true-iff}
 use mathlib.Core.List.{List, [], _∷_}
-use native.Mathlib.Nat.{add-zero, zero-add, add-suc, suc-add, le-of-suc-le-suc, not-suc-le-zero}
+use native.Mathlib.Nat.{le-of-suc-le-suc, not-suc-le-zero}
 use borrow.Author.Tests.{ltb-true, leb-true, eqb-true, eq-eqb}
 use lib.Dec.{ltb, leb, eqb}
 use lib.ListN.{length, getD}
 use Rattle.text_rules.specs.Forms.{Operand, Form, forms, formAt, sameBytes, rowNamed}
 use Rattle.text_rules.proofs.Written.{decimal, decimalIn}
+use Rattle.text_rules.proofs.Fronts.{All}
 
 -- ---- tests on a whole list
 
 -- both of two tests hold
 pub both : (s t : Bool) → (s && t) ≡ true → (s ≡ true) × (t ≡ true)
-both true t e = (refl, e)
-both false t e = absurd (true≢false (sym e))
+both s t e = and-eq-true-iff s t .0 e
 
 -- a test holds of each element of a list
 abbrev pub every : {A : Type 0} → (A → Bool) → List A → Bool
 every test [] = true
 every test (x ∷ xs) = test x && every test xs
 
--- and so of the one at any place
+-- so of all of its numbers, said as a fact
+pub every-all : (test : ℕ → Bool) (xs : List ℕ) → every test xs ≡ true → All (λ (b : ℕ). test b ≡ true) xs
+every-all test [] e = tt
+every-all test (x ∷ xs) e = let two = both (test x) (every test xs) e in (two .0, every-all test xs (two .1))
+
+-- and of the one at any place
 at-place : {A : Type 0} (test : A → Bool) (xs : List A) (d : A) → every test xs ≡ true → (k : ℕ) → k < length xs → test (getD xs k d) ≡ true
 at-place test [] d e k h = absurd (not-suc-le-zero h)
 at-place test (x ∷ xs) d e zero h = both (test x) (every test xs) e .0
 at-place test (x ∷ xs) d e (suc k) h = at-place test xs d (both (test x) (every test xs) e .1) k (le-of-suc-le-suc h)
+
+-- ---- two functions whose values below a limit are computed, and are the same there
+
+abbrev values : {A : Type 0} → ℕ → (ℕ → A) → List A
+values zero f = []
+values (suc n) f = f 0 ∷ values n (λ k. f (suc k))
+
+value-at : {A : Type 0} (n : ℕ) (f : ℕ → A) (d : A) (k : ℕ) → k < n → getD (values n f) k d ≡ f k
+value-at zero f d k h = absurd (not-suc-le-zero h)
+value-at (suc n) f d zero h = refl
+value-at (suc n) f d (suc k) h = value-at n (λ j. f (suc j)) d k (le-of-suc-le-suc h)
+
+pub agree : {A : Type 0} (n : ℕ) (f g : ℕ → A) → values n f ≡ values n g → (k : ℕ) → k < n → f k ≡ g k
+agree {A} n f g e k h = sym (value-at n f (f 0) k h) ∙ ap (λ (l : List A). getD l k (f 0)) e ∙ value-at n g (f 0) k h
 
 -- ---- names
 
@@ -46,6 +65,9 @@ same-as-itself (a ∷ x) = rw (eq-eqb a a refl) (same-as-itself x)
 -- names are of lower-case letters
 abbrev pub isLetter : ℕ → Bool
 isLetter b = leb 97 b && leb b 122
+
+pub letter-bounds : (b : ℕ) → isLetter b ≡ true → (97 ≤ b) × (b ≤ 122)
+letter-bounds b e = let two = both (leb 97 b) (leb b 122) e in (leb-true 97 b (two .0), leb-true b 122 (two .1))
 
 -- ---- operands
 
@@ -105,18 +127,7 @@ module _ (row : ℕ) (h : row < length forms) where
     bytes = at-most (λ f. length (f .name) + mostBytes (f .operands) + 1) 19 refl;
   }
 
--- ---- every name is that of its own row, and no earlier one has it
-
-abbrev namedFrom : ℕ → List Form → Bool
-namedFrom row [] = true
-namedFrom row (f ∷ fs) = eqb (rowNamed (f .name) forms) row && namedFrom (suc row) fs
-
-named-from : (row : ℕ) (fs : List Form) (d : Form) → namedFrom row fs ≡ true → (k : ℕ) → k < length fs → rowNamed (getD fs k d .name) forms ≡ row + k
-named-from row [] d e k h = absurd (not-suc-le-zero h)
-named-from row (f ∷ fs) d e zero h = eqb-true _ _ (both (eqb (rowNamed (f .name) forms) row) (namedFrom (suc row) fs) e .0) ∙ sym (add-zero row)
-named-from row (f ∷ fs) d e (suc k) h =
-    named-from (suc row) fs d (both (eqb (rowNamed (f .name) forms) row) (namedFrom (suc row) fs) e .1) k (le-of-suc-le-suc h) ∙ suc-add row k ∙ sym (add-suc row k)
-
+-- every name is that of its own row, and no earlier one has it
 pub own-row : (row : ℕ) → row < length forms → rowNamed (formAt row .name) forms ≡ row
 unfolding rowNamed
-own-row row h = named-from 0 forms (formAt (length forms)) refl row h ∙ zero-add row
+own-row = agree 25 (λ (row : ℕ). rowNamed (formAt row .name) forms) (λ (row : ℕ). row) refl

@@ -13,7 +13,8 @@ use Rattle.table.specs.Operation.Operation.{li, simal, simah, simsl, simsh, slm
 use Rattle.table.specs.Operation.Operation.{nop, shrhi, au, cntih, ahs, or, bcw, maxws, minws, mlhu, mlhcu, and, clzw, rotw, sfwu, sfhs}
 use Rattle.text_rules.specs.Forms.{Operand, rd, index, immediate, formAt}
 use Rattle.text_rules.proofs.Written.{Below, wordOf}
-use Rattle.text_rules.proofs.Words.{rows, word-of-its-row, agree, li-words, packed, inFields, first-field, put-packed, for-listed}
+use Rattle.text_rules.proofs.Rows.{agree}
+use Rattle.text_rules.proofs.Words.{rows, word-of-its-row, li-words, packed, inFields, first-field, put-packed, for-listed}
 
 -- ---- the row
 

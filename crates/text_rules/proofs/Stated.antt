@@ -6,48 +6,31 @@ use mathlib.Core.Path.{_≡_, refl, sym, ap, _∙_}
 use mathlib.Core.Bool.{Bool, true, false, cond, not}
 use mathlib.Core.List.{List, [], _∷_, _++_, flatMap, append-nil, append-assoc}
 use native.Mathlib.Omega.{arith}
-use borrow.Author.Tests.{lt-ltb, ltb-true, leb-true, lt-leb, ne-eqb}
+use borrow.Author.Tests.{lt-ltb, ltb-true, lt-leb, ne-eqb}
 use lib.Dec.{ltb, leb}
 use lib.ListN.{length, getD, drop, length-append}
 use lib.Seq.{drop-drop, drop-at, drop-append-seam}
 use Rattle.table.specs.Decided.{decided}
 use Rattle.table.specs.Refusal.{NAME, OPERANDS}
-use Rattle.table.proofs.Decided.{passes, ends, neither, not-denied}
+use Rattle.table.proofs.Decided.{passes, ends, neither, denied, not-denied}
 use Rattle.text_rules.specs.declared.Operands.{Operands}
 use Rattle.text_rules.specs.declared.Line.{Line}
 use Rattle.text_rules.specs.Forms.{Operand, Form, forms, formAt, sameBytes, rowNamed}
-use Rattle.text_rules.specs.Number.{digitsIn, numberOf, isNumeral, saysBelow}
-use Rattle.text_rules.specs.Line.{SPACE, NEWLINE, endsName, nameIn, operandsIn, behindName, acceptedLine, refusedLine, lineOf}
+use Rattle.text_rules.specs.Front.{frontWhile}
+use Rattle.text_rules.specs.Number.{isDigit, digitsIn, numberOf, isNumeral, saysBelow}
+use Rattle.text_rules.specs.Line.{SPACE, NEWLINE, inName, nameIn, operandsIn, behindName, acceptedLine, refusedLine, lineOf}
 use Rattle.text_rules.proofs.Written.{Below, put, wordOf, decimal, numbersText, lineText}
+use Rattle.text_rules.proofs.Fronts.{all-map, front-passes, front-stands, front-then}
 use Rattle.text_rules.proofs.Fits.{last-stated, first-stated, taken}
-use Rattle.text_rules.proofs.Numerals.{decimal-says, decimal-of, digits-in, digits-then, digits-front}
-use Rattle.text_rules.proofs.Rows.{both, every, isLetter, same-bytes, sound, own-row}
+use Rattle.text_rules.proofs.Numerals.{decimal-says, decimal-of}
+use Rattle.text_rules.proofs.Rows.{both, every-all, isLetter, letter-bounds, same-bytes, sound, own-row}
 
 -- ---- the name
 
-no-end : (b : ℕ) → isLetter b ≡ true → endsName b ≡ false
-no-end b e =
-    let two = both (leb 97 b) (leb b 122) e in
-    let low = leb-true 97 b (two .0) in
-    neither (ne-eqb b SPACE (λ z. omega arith)) (ne-eqb b NEWLINE (λ z. omega arith))
-
--- letters, and the name that begins what follows
-letters-then : (name rest : List ℕ) → every isLetter name ≡ true → nameIn (name ++ rest) ≡ name ++ nameIn rest
-unfolding nameIn
-letters-then [] rest e = refl
-letters-then (b ∷ name) rest e =
-    let two = both (isLetter b) (every isLetter name) e in
-    rw (no-end b (two .0)) (ap (λ (m : List ℕ). b ∷ m) (letters-then name rest (two .1)))
-
-front-unless : (t : Bool) (b : ℕ) (l m : List ℕ) → m ++ drop (length m) l ≡ l → cond t [] (b ∷ m) ++ drop (length (cond t [] (b ∷ m))) (b ∷ l) ≡ b ∷ l
-front-unless true b l m e = refl
-front-unless false b l m e = ap (λ (r : List ℕ). b ∷ r) e
-
--- the name stands in front of what is behind it
-name-front : (l : List ℕ) → nameIn l ++ drop (length (nameIn l)) l ≡ l
-unfolding nameIn
-name-front [] = refl
-name-front (b ∷ l) = front-unless (endsName b) b l (nameIn l) (name-front l)
+in-a-name : (b : ℕ) → isLetter b ≡ true → inName b ≡ true
+in-a-name b e =
+    let bounds = letter-bounds b e in
+    denied (neither (ne-eqb b SPACE (λ z. omega arith)) (ne-eqb b NEWLINE (λ z. omega arith)))
 
 -- a row that is found has that name
 pub found : (name : List ℕ) (fs : List Form) (d : Form) → rowNamed name fs < length fs → getD fs (rowNamed name fs) d .name ≡ name
@@ -65,7 +48,7 @@ found name (f ∷ fs) d h = by (sameBytes name (f .name)) refl h (λ less. found
 
 -- what stands behind a number does not begin with a digit
 no-digit : (vs rest : List ℕ) → digitsIn (numbersText vs ++ NEWLINE ∷ rest) ≡ []
-unfolding digitsIn flatMap
+unfolding frontWhile flatMap
 no-digit [] rest = refl
 no-digit (v ∷ vs) rest = refl
 
@@ -79,7 +62,7 @@ next-number : (o : Operand) (os : List Operand) (word size v : ℕ) (more : List
 unfolding operandsIn
 next-number o os word size v more h none =
     let digits : digitsIn (decimal v ++ more) ≡ decimal v
-    = digits-then (decimal v) more (decimal-says v .digits) ∙ ap (λ (l : List ℕ). decimal v ++ l) none ∙ append-nil (decimal v) in
+    = front-then isDigit (decimal v) more (decimal-says v .digits) ∙ ap (λ (l : List ℕ). decimal v ++ l) none ∙ append-nil (decimal v) in
     let behind : drop (1 + length (decimal v)) (SPACE ∷ decimal v ++ more) ≡ more = drop-at (SPACE ∷ decimal v) more (1 + length (decimal v)) (omega arith) in
     rw (digits, decimal-below (o .limit) v h, decimal-says v .says, behind)
 
@@ -115,14 +98,14 @@ numbers-written (o ∷ os) word size l e =
     let two = both (isNumeral digits) (ltb v (o .limit)) (s .says) in
     let behind : List ℕ = drop (1 + length digits) l in
     let r = numbers-written os (word + v * 2 ^ (o .place)) (size + 1 + length digits) behind (sym (ap (λ (x : Operands). x .stated) (s .others)) ∙ e) in
-    let front : digits ++ behind ≡ drop 1 l = ap (λ (m : List ℕ). digits ++ m) (sym (drop-drop (length digits) 1 l)) ∙ digits-front (drop 1 l) in
+    let front : digits ++ behind ≡ drop 1 l = ap (λ (m : List ℕ). digits ++ m) (sym (drop-drop (length digits) 1 l)) ∙ front-stands isDigit (drop 1 l) in
     record {
       numbers = v ∷ r .numbers;
       rest = r .rest;
       below = (ltb-true v (o .limit) (two .1), r .below);
       written =
           s .spaced ∙ ap (λ (m : List ℕ). SPACE ∷ m) (sym front)
-          ∙ ap (λ (m : List ℕ). SPACE ∷ m ++ behind) (sym (decimal-of digits (digits-in (drop 1 l)) (two .0)))
+          ∙ ap (λ (m : List ℕ). SPACE ∷ m ++ behind) (sym (decimal-of digits (front-passes isDigit (drop 1 l)) (two .0)))
           ∙ ap (λ (m : List ℕ). SPACE ∷ decimal v ++ m) (r .written)
           ∙ sym (append-assoc (SPACE ∷ decimal v) (numbersText (r .numbers)) (NEWLINE ∷ r .rest));
     }
@@ -154,7 +137,7 @@ line-pieces f vs rest =
     append-assoc (f .name ++ numbersText vs) (NEWLINE ∷ []) rest ∙ append-assoc (f .name) (numbersText vs) (NEWLINE ∷ rest)
 
 name-ends : (vs rest : List ℕ) → nameIn (numbersText vs ++ NEWLINE ∷ rest) ≡ []
-unfolding nameIn flatMap
+unfolding frontWhile flatMap
 name-ends [] rest = refl
 name-ends (v ∷ vs) rest = refl
 
@@ -170,7 +153,7 @@ stated-line row vs rest h below =
     let behind : List ℕ = numbersText vs ++ NEWLINE ∷ rest in
     let l : List ℕ = f .name ++ behind in
     let name : nameIn l ≡ f .name
-    = letters-then (f .name) behind (sound row h .letters) ∙ ap (λ (m : List ℕ). f .name ++ m) (name-ends vs rest) ∙ append-nil (f .name) in
+    = front-then inName (f .name) behind (all-map in-a-name (f .name) (every-all isLetter (f .name) (sound row h .letters))) ∙ ap (λ (m : List ℕ). f .name ++ m) (name-ends vs rest) ∙ append-nil (f .name) in
     let said : behindName f (f .name) l
     ≡ record { stated = true; word = put (f .word) (f .operands) vs; size = length (f .name) + (length (numbersText vs) + 1) }
     = ap (operandsIn (f .operands) (f .word) (length (f .name))) (drop-append-seam (f .name) behind)
@@ -196,7 +179,7 @@ accepted-line l e =
     let f : Form = formAt row in
     let n : Numbers (f .operands) (drop (length name) l) = numbers-written (f .operands) (f .word) (length name) (drop (length name) l) (t .stated) in
     let text : l ≡ lineText f (n .numbers) ++ n .rest
-    = sym (name-front l) ∙ ap (λ (m : List ℕ). name ++ m) (n .written)
+    = sym (front-stands inName l) ∙ ap (λ (m : List ℕ). name ++ m) (n .written)
     ∙ ap (λ (m : List ℕ). m ++ (numbersText (n .numbers) ++ NEWLINE ∷ n .rest)) (sym (found name forms (formAt 25) (t .named)))
     ∙ sym (line-pieces f (n .numbers) (n .rest)) in
     let answer : lineOf l ≡ acceptedLine (put (f .word) (f .operands) (n .numbers)) (length (lineText f (n .numbers)))

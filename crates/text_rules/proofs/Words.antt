@@ -6,7 +6,7 @@ use mathlib.Core.Path.{_≡_, refl, sym, ap, subst, _∙_}
 use mathlib.Core.Bool.{Bool, true, false, not, _&&_, _||_}
 use mathlib.Core.List.{List, [], _∷_, map}
 use native.Mathlib.Omega.{arith}
-use native.Mathlib.Nat.{le-of-suc-le-suc, not-suc-le-zero, add-zero, zero-mul, add-mul, mul-assoc, mul-comm}
+use native.Mathlib.Nat.{add-zero, zero-mul, add-mul, mul-assoc, mul-comm}
 use native.Mathlib.Numerals.{one-add}
 use borrow.Author.Tests.{eqb-true, leb-true, ltb-true, ltb-false}
 use lib.Dec.{eqb, leb, ltb}
@@ -21,21 +21,7 @@ use Rattle.table.proofs.Theorems.{nop?}
 use Rattle.table.proofs.Assembled.{together, liWord, li-fields, multiplyWord, multiply-fields, shortWord, short-fields}
 use Rattle.text_rules.specs.Forms.{Operand, rd, index, immediate, rs1, rs2, rs3, formAt}
 use Rattle.text_rules.proofs.Written.{Below, put, wordOf}
-use Rattle.text_rules.proofs.Rows.{both, every}
-
--- ---- two functions whose values below a limit are computed and are the same
-
-abbrev values : {A : Type 0} → ℕ → (ℕ → A) → List A
-values zero f = []
-values (suc n) f = f 0 ∷ values n (λ k. f (suc k))
-
-value-at : {A : Type 0} (n : ℕ) (f : ℕ → A) (d : A) (k : ℕ) → k < n → getD (values n f) k d ≡ f k
-value-at zero f d k h = absurd (not-suc-le-zero h)
-value-at (suc n) f d zero h = refl
-value-at (suc n) f d (suc k) h = value-at n (λ j. f (suc j)) d k (le-of-suc-le-suc h)
-
-pub agree : {A : Type 0} (n : ℕ) (f g : ℕ → A) → values n f ≡ values n g → (k : ℕ) → k < n → f k ≡ g k
-agree {A} n f g e k h = sym (value-at n f (f 0) k h) ∙ ap (λ (l : List A). getD l k (f 0)) e ∙ value-at n g (f 0) k h
+use Rattle.text_rules.proofs.Rows.{both, every, agree}
 
 -- ---- li
 

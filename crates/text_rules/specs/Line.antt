@@ -10,6 +10,7 @@ use Rattle.table.specs.Refusal.{NAME, OPERANDS}
 use Rattle.text_rules.specs.declared.Operands.{Operands}
 use Rattle.text_rules.specs.declared.Line.{Line}
 use Rattle.text_rules.specs.Forms.{Operand, Form, forms, formAt, rowNamed}
+use Rattle.text_rules.specs.Front.{frontWhile}
 use Rattle.text_rules.specs.Number.{digitsIn, numberOf, saysBelow}
 
 -- ASCII codes
@@ -25,13 +26,12 @@ beginsWith b (x ∷ l) = eqb x b
 
 -- ---- the name
 
-abbrev pub endsName : ℕ → Bool
-endsName b = eqb b SPACE || eqb b NEWLINE
+abbrev pub inName : ℕ → Bool
+inName b = not (eqb b SPACE || eqb b NEWLINE)
 
 -- "the text up to the first space, newline or end"
-unfoldable pub nameIn : List ℕ → List ℕ
-nameIn [] = []
-nameIn (b ∷ l) = cond (endsName b) [] (b ∷ nameIn l)
+abbrev pub nameIn : List ℕ → List ℕ
+nameIn l = frontWhile inName l
 
 -- ---- what stands behind it
 

@@ -1,18 +1,18 @@
 -- "decimal numbers without leading zeros".
 -- Assumes nothing.
 use Prim.Native.Nat.{ℕ, _+_, _*_, _-_}
-use mathlib.Core.Bool.{Bool, true, false, cond, not, _&&_}
+use mathlib.Core.Bool.{Bool, true, false, not, _&&_}
 use mathlib.Core.List.{List, [], _∷_, map}
 use lib.Dec.{ltb, leb, eqb}
+use Rattle.text_rules.specs.Front.{frontWhile}
 
 -- the decimal digits 0 to 9, by their ASCII codes
 abbrev pub isDigit : ℕ → Bool
 isDigit b = leb 48 b && leb b 57
 
 -- all digits at the front of a text
-unfoldable pub digitsIn : List ℕ → List ℕ
-digitsIn [] = []
-digitsIn (b ∷ l) = cond (isDigit b) (b ∷ digitsIn l) []
+abbrev pub digitsIn : List ℕ → List ℕ
+digitsIn l = frontWhile isDigit l
 
 -- what digits of a base say, behind digits that say `before`
 abbrev pub positional : ℕ → ℕ → List ℕ → ℕ

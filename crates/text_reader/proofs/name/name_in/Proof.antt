@@ -21,7 +21,7 @@ mul-key c =
     omega (
       arith,
       key-room (loop .before .before .args .text .now) (loop .loop .key) (loop .loop .size) (loop .loop .inv .2) (omega arith) (b .if1 .taken)
-          (c .before .ends-name .ensures) (c .before .before .shared-slice-known2 .given) (c .if2 .taken),
+          (c .before .in-name .ensures) (c .before .before .shared-slice-known2 .given) (c .if2 .taken),
     )
 
 cast-key : this.Tie.Need-cast-key Inv-loop μ-loop
@@ -34,7 +34,7 @@ add-key c =
     omega (
       arith,
       key-room (loop .before .before .args .text .now) (loop .loop .key) (loop .loop .size) (loop .loop .inv .2) (omega arith) (b .if1 .taken)
-          (c .before .before .ends-name .ensures) (c .shared-slice-known3 .given) (c .before .if2 .taken),
+          (c .before .before .in-name .ensures) (c .shared-slice-known3 .given) (c .before .if2 .taken),
     )
 
 loop-again : this.Tie.Need-loop-again Inv-loop μ-loop
@@ -43,13 +43,13 @@ loop-again c =
     let loop = b .before .before in (
       omega arith,
       omega (arith, ltb-true),
-      name-more _ _ _ (loop .loop .inv .2) (omega arith) (b .if1 .taken) (c .before .before .ends-name .ensures) (c .before .if2 .taken),
+      name-more _ _ _ (loop .loop .inv .2) (omega arith) (b .if1 .taken) (c .before .before .in-name .ensures) (c .before .if2 .taken),
     )
 
 returns : this.Tie.Need-returns Inv-loop μ-loop
 returns c =
     let b = c .before .before .before in
-    name-ends _ _ _ (b .before .before .loop .inv .2) (omega arith) (b .if1 .taken) (c .before .ends-name .ensures) (c .if2 .left)
+    name-ends _ _ _ (b .before .before .loop .inv .2) (omega arith) (b .if1 .taken) (c .before .in-name .ensures) (c .if2 .left)
 
 pub name-in-spec : {M : Type 1} → this.Statement.statement M
 name-in-spec =

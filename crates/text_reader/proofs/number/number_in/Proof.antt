@@ -5,7 +5,9 @@ use mathlib.Core.Logic.{⊎-elim}
 use native.Mathlib.Omega.{arith}
 use borrow.Author.Needs.{needs}
 use lib.ListN.{length}
-use Rattle.text_reader.proofs.Numbers.{NumberSoFar, number-more, reaches-limit, all-read, no-byte, no-digit, digit-least}
+use Rattle.text_rules.specs.Number.{isDigit}
+use Rattle.text_rules.proofs.Fronts.{front-at-end, front-ended}
+use Rattle.text_reader.proofs.Numbers.{NumberSoFar, number-more, reaches-limit, all-read, digit-least}
 use Rattle.text_reader.proofs.number.number_in as this
 
 abbrev Inv-loop : this.Tie.InvT-loop
@@ -40,7 +42,7 @@ judged-requires c κs = (
   omega arith,
   omega arith,
   all-read _ _ _ _ (c .before .loop .inv .2)
-      (⊎-elim (λ w. no-digit _ _ (w .0 .taken) (sym (w .2 .ensures) ∙ w .3 .left)) (λ w. no-byte _ _ (w .left)) (c .loop-test .came)),
+      (⊎-elim (λ w. front-ended isDigit _ _ (w .0 .taken) (sym (w .2 .ensures) ∙ w .3 .left)) (λ w. front-at-end isDigit _ _ (w .left)) (c .loop-test .came)),
 )
 
 pub number-in-spec : {M : Type 1} → this.Statement.statement M
