@@ -96,5 +96,6 @@ unfoldable pub rowNamed : List ℕ → List Form → ℕ
 rowNamed name [] = 0
 rowNamed name (f ∷ fs) = cond (sameBytes name (f .name)) 0 (suc (rowNamed name fs))
 
+-- that row; beyond the last one a form of nothing, which no answer shows
 abbrev pub formAt : ℕ → Form
 formAt row = getD forms row (form [] 0 [])

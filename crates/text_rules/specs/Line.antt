@@ -20,12 +20,14 @@ SPACE = 32
 abbrev pub NEWLINE : ℕ
 NEWLINE = 10
 
+-- whether the first byte is this one
 abbrev pub beginsWith : ℕ → List ℕ → Bool
 beginsWith b [] = false
 beginsWith b (x ∷ l) = eqb x b
 
 -- ---- the name
 
+-- a byte that ends no name
 abbrev pub inName : ℕ → Bool
 inName b = not (eqb b SPACE || eqb b NEWLINE)
 
@@ -35,6 +37,7 @@ nameIn l = frontWhile inName l
 
 -- ---- what stands behind it
 
+-- zeros where anything is not as stated
 abbrev pub notStated : Operands
 notStated = record { stated = false; word = 0; size = 0 }
 
@@ -54,6 +57,7 @@ behindName f name l = operandsIn (f .operands) (f .word) (length name) (drop (le
 
 -- ---- the line
 
+-- its word, and how many bytes it has; or its refusal, and zeros
 abbrev pub acceptedLine : ℕ → ℕ → Line
 acceptedLine word size = record { refusal = 0; word = word; size = size }
 
