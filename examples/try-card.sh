@@ -162,7 +162,7 @@ printf 'a job\n' >"$TRY/job"
 begin 'the verbs are listed'
 run ./card
 gives 0; out_has './card trace [JOB]'; out_has './card traces JOB..'; err_is ''; builds 0
-out_has './card assemble [TEXT [REGISTERS]]'; out_has './card texts TEXT..'
+out_has './card calls [SCRIPT]'; out_has './card assemble [TEXT [REGISTERS]]'; out_has './card texts TEXT..'
 end
 
 begin 'an unknown verb'
@@ -553,6 +553,40 @@ for program in trace traces; do
         end
     done
 done
+
+if is_there calls examples/calls.txt; then
+    begin 'the real calls on examples/calls.txt'
+    run ./card calls examples/calls.txt
+    gives 0; prints examples/calls.answers; err_is ''
+    end
+
+    begin 'a script on standard input, and a job whose name has spaces'
+    cp examples/sample.job "$TRY/a job of words"
+    status=0
+    printf 'load %s\ngo\nrun 9' "$TRY/a job of words" | ./card calls >"$TRY/out" 2>"$TRY/err" || status=$?
+    gives 0; out_is "load $TRY/a job of words = 0 0\ngo = 0\nrun 9 = 0 5\n"; err_is ''
+    end
+
+    begin 'a script with a job that is refused, one that is missing and a folder'
+    printf 'load %s\nload %s\nload %s\ndrained\n' "$TRY/job" "$TRY/missing.job" "$TRY/elsewhere" >"$TRY/script"
+    run ./card calls "$TRY/script"
+    gives 2; err_is "UNREADABLE $TRY/missing.job\nUNREADABLE $TRY/elsewhere\n"
+    out_is "load $TRY/job = 1 0\nload $TRY/missing.job = UNREADABLE\nload $TRY/elsewhere = UNREADABLE\ndrained = 0 1\n"
+    end
+
+    begin 'a script with lines that are no calls: each is answered in its line'
+    printf 'stop\n\ngo\r\nrun 4294967296\nREFUSED 4\ngo\n' >"$TRY/script"
+    run ./card calls "$TRY/script"
+    gives 0; out_is 'stop = UNKNOWN\n = UNKNOWN\ngo\r = UNKNOWN\nrun 4294967296 = UNKNOWN\nREFUSED 4 = UNKNOWN\ngo = 0\n'; err_is ''
+    end
+
+    begin 'a script that is missing, and one that cannot be read'
+    run ./card calls "$TRY/missing"
+    gives 2; out_is ''
+    run ./card calls <"$TRY/elsewhere"
+    gives 2; out_is ''; err_is 'UNREADABLE\n'
+    end
+fi
 
 if is_there assemble examples/sample.text; then
     begin 'the real assemble on examples/sample.text'

@@ -1,16 +1,87 @@
-// The bench values that are run and not proved: room for rows, files and words at the edges of what is accepted, calls that are refused, and lanes. Each line says what was asked
-// and what was answered; the file `stdout` beside the sources has what the rules ask for, written from the rules.
+// What no script of calls on a unit can say: room for rows, the writer's buffers, records that no call leaves, plain execution, and lanes that are run and not proved.
+// Each line of standard input is a case and is repeated with ` = ` and its answer; a line that is no case has UNKNOWN for an answer. Numbers are decimal, words and
+// registers in hex digits; where a word or a register is missing or `-`, it is zero, or the latch empty. The cases, and what they answer:
+//
+//     row ROOM START                   refusal; how many bytes of the buffer were altered, the first of them and the last
+//     cycle-row ROOM START             the same of a cycle with its row, of a unit that has one line and has gone; then the unit
+//     write LINES BYTES ROOM WORD ..   refusal, place, size; the bytes altered, as above; the first eight bytes
+//     plain LINES R1 WORD ..           refusal, place, registers 1 and 4
+//     lone WORD R1 R2 R3               the same
+//     record LINES COUNT CYCLE GONE IF/ID ID/EX EX/WB WORD ..
+//                                      whether it is well made; then a line for each call on it, with the answer and the unit
+//
+// A program's lines are the words that are named, and zeros behind them. A unit is printed as a record is written, up to its words.
 
-mod files;
+ghost use Prim.Native.Nat.{_≤_};
+ghost use lib.ListN.{length};
+
+mod case;
+mod machine;
 mod print;
 mod rows;
-mod texts;
 mod units;
-mod words;
+mod writes;
 
+use crate::case::fits;
+use console::input::read_open;
+use console::output::print;
+use console::output::say;
+use libc::STDIN_FILENO;
+use script::line_end;
+
+// Whether a line is a case; then its answer is printed.
+fn answers(line: &[u8]) -> bool {
+    if fits(line, b"row N S") {
+        rows::answer(line);
+    } else if fits(line, b"cycle-row N S") {
+        units::answer_cycle(line);
+    } else if fits(line, b"write N N N W W W W") {
+        writes::answer(line);
+    } else if fits(line, b"plain N R W W W W") {
+        machine::answer_program(line);
+    } else if fits(line, b"lone W R R R") {
+        machine::answer_word(line);
+    } else if fits(line, b"record B B N B W W W W W W W") {
+        units::answer_record(line);
+    } else {
+        return false;
+    }
+    true
+}
+
+fn print_answer(line: &[u8]) {
+    print(line);
+    print(b" =");
+    if !answers(line) {
+        print(b" UNKNOWN");
+    }
+    print(b"\n");
+}
+
+fn line_at(script: &[u8], at: usize) -> &[u8]
+    requires { ⌜ at ≤ length (now script) ⌝ }
+{
+    let end = line_end(script, at);
+    &script[at..end]
+}
+
+fn print_answers(script: &[u8]) {
+    let mut at = 0;
+    while at < script.len() {
+        let line = line_at(script, at);
+        print_answer(line);
+        at += line.len() + 1;
+    }
+}
+
+// A script that fills the buffer may go on behind it: none of it is answered then.
 fn main() {
-    rows::print_all();
-    files::print_all();
-    units::print_all();
-    words::print_all();
+    let mut script = io::large_buffer();
+    let came = read_open(STDIN_FILENO, &mut script);
+    if came.failed || came.size == script.len() {
+        say(b"UNREADABLE\n");
+        return;
+    }
+    let size = came.size;
+    print_answers(&script[..size]);
 }

@@ -1,71 +1,74 @@
-// What the lines show beside numbers: hexadecimal digits, units, and which bytes of a buffer were altered.
+// What an answer is made of, each part behind a space: numbers, registers, units, and what became of a buffer.
 
-use crate::texts;
-use crate::texts::form;
-use crate::texts::text;
+use crate::case::MOST;
 use console::output::print;
+use console::output::write_number;
+use libc::STDOUT_FILENO;
 use register::Register;
+use row::values::register_text;
+use row::values::word_text;
+use unit_record::latches::in_decoded;
+use unit_record::latches::in_executed;
+use unit_rules::IfId;
+use unit_rules::Unit;
 
-// The size of every buffer here: more than the largest job takes.
-pub(crate) const ROOM: usize = 800;
+// What buffers are filled with: a byte that stands in no row and in no file here.
+pub(crate) const FILL: u8 = 238;
 
-const DIGITS: [u8; 16] = *b"0123456789ABCDEF";
-
-fn byte(b: u8) {
-    let digits = DIGITS;
-    let both = [digits[(b / 16) as usize], digits[(b % 16) as usize]];
-    print(&both);
+pub(crate) fn number(n: usize) {
+    write_number(STDOUT_FILENO, n as u64);
 }
 
-// Where a header stands, up to the end of the line.
-pub(crate) fn front(buffer: &[u8; ROOM]) {
+pub(crate) fn register(value: Register) {
+    print(b" ");
+    print(&register_text(value));
+}
+
+fn latch(held: IfId) {
+    match held {
+        IfId::Empty => print(b" -"),
+        IfId::Holds(i) => {
+            print(b" ");
+            print(&word_text(i.word));
+        }
+    }
+}
+
+// As a record is written, up to its words.
+pub(crate) fn unit(u: Unit) {
+    number(u.program.n.0 as usize);
+    number(u.count.0 as usize);
+    number(u.cycle as usize);
+    number(u.gone as usize);
+    let fetched = u.fetched;
+    let decoded = u.decoded;
+    let executed = u.executed;
+    latch(fetched);
+    latch(in_decoded(decoded));
+    latch(in_executed(executed));
+}
+
+fn byte(b: u8) {
+    number(b as usize);
+}
+
+// The bytes where a header stands.
+pub(crate) fn front(buffer: &[u8; MOST]) {
     let mut i = 0;
     while i < 8 {
         byte(buffer[i]);
         i += 1;
     }
-    text(texts::LINE_END);
 }
 
-pub(crate) fn word(w: u32) {
-    byte((w / 0x100_0000 % 0x100) as u8);
-    byte((w / 0x1_0000 % 0x100) as u8);
-    byte((w / 0x100 % 0x100) as u8);
-    byte((w % 0x100) as u8);
-}
-
-// Up to the end of its line; bit 127 is leftmost.
-pub(crate) fn value(r: Register) {
-    word(r.w3);
-    word(r.w2);
-    word(r.w1);
-    word(r.w0);
-    text(texts::LINE_END);
-}
-
-// The words of a program, each behind a space.
-pub(crate) fn program(words: &[u32]) {
-    let mut i = 0;
-    while i < words.len() {
-        text(texts::SPACE);
-        word(words[i]);
-        i += 1;
-    }
-}
-
-// A unit is shown by its lines and its cycle number, up to the end of the line.
-pub(crate) fn unit(n: u8, cycle: u32) {
-    form(texts::UNIT, n as usize, cycle as usize, 0);
-}
-
-// How many bytes of a buffer that was filled with one byte are another one now, and from where to where: as many as lie between the two where all of those are altered.
-pub(crate) fn altered(buffer: &[u8; ROOM], fill: u8) {
+// How many bytes of a buffer that was filled are another one now, the first of those and the last: as many as lie between the two where all of these are altered.
+pub(crate) fn altered(buffer: &[u8; MOST]) {
     let mut count = 0;
     let mut first = 0;
     let mut last = 0;
     let mut i = 0;
-    while i < ROOM {
-        if buffer[i] != fill {
+    while i < MOST {
+        if buffer[i] != FILL {
             if count == 0 {
                 first = i;
             }
@@ -74,8 +77,7 @@ pub(crate) fn altered(buffer: &[u8; ROOM], fill: u8) {
         }
         i += 1;
     }
-    form(texts::ALTERED, count, 0, 0);
-    if count > 0 {
-        form(texts::FROM_TO, first, last, 0);
-    }
+    number(count);
+    number(first);
+    number(last);
 }

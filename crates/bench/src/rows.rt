@@ -1,12 +1,9 @@
-// Room for a row, for a row by itself and for a cycle with its row: the answer, and the bytes that are altered.
+// Room for a row.
 
-ghost use Prim.Native.Nat.{_≤_};
+use crate::case;
+use crate::case::MOST;
 use crate::print;
-use crate::print::ROOM;
-use crate::texts;
-use crate::texts::form;
-use crate::texts::text;
-use crate::units;
+use crate::print::FILL;
 use alu_rules::Outcome;
 use register::Register;
 use row_rules::Change;
@@ -14,13 +11,6 @@ use row_rules::Flags;
 use row_rules::Row;
 use row_rules::Stage;
 use table::Pointer;
-use unit_rules::Unit;
-
-// A byte that stands in no row.
-const FILL: u8 = b'.';
-
-// No buffer has room behind it.
-pub(crate) const LARGEST_START: usize = 0xFFFF_FFFF_FFFF_FFFF;
 
 fn full_row() -> Row {
     let outcome = Outcome {
@@ -41,49 +31,12 @@ fn full_row() -> Row {
     }
 }
 
-fn print_row(room: usize, start: usize)
-    requires { ⌜ room ≤ 800 ⌝ }
-{
-    let mut buffer = [FILL; ROOM];
+pub(crate) fn answer(line: &[u8]) {
+    let room = case::size(line, 1);
+    let start = case::start(line, 2);
+    let mut buffer = [FILL; MOST];
     let row = full_row();
-    let answer = row::write_row(&mut buffer[0..room], start, row);
-    form(texts::ROW, room, start, answer as usize);
-    print::altered(&buffer, FILL);
-    text(texts::LINE_END);
-}
-
-pub(crate) fn print_cycle(u: Unit, room: usize, start: usize)
-    requires { ⌜ room ≤ 800 ⌝ }
-{
-    let mut buffer = [FILL; ROOM];
-    let cycled = trace_row::cycle_with_row(u, &mut buffer[0..room], start);
-    form(texts::CYCLE_WITH_ROW, room, start, cycled.refusal as usize);
-    print::altered(&buffer, FILL);
-    print::unit(cycled.unit.program.n.0, cycled.unit.cycle);
-}
-
-fn print_rows() {
-    print_row(74, 0);
-    print_row(75, 0);
-    print_row(75, 1);
-    print_row(75, 76);
-    print_row(75, LARGEST_START);
-    print_row(76, 1);
-    print_row(80, 2);
-}
-
-fn print_cycles() {
-    let u = units::sample();
-    print_cycle(u, 74, 0);
-    print_cycle(u, 75, 0);
-    print_cycle(u, 75, 1);
-    print_cycle(u, 75, 76);
-    print_cycle(u, 75, LARGEST_START);
-    print_cycle(u, 76, 1);
-    print_cycle(u, 80, 2);
-}
-
-pub(crate) fn print_all() {
-    print_rows();
-    print_cycles();
+    let refusal = row::write_row(&mut buffer[0..room], start, row);
+    print::number(refusal as usize);
+    print::altered(&buffer);
 }

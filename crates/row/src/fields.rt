@@ -86,7 +86,7 @@ fn put_two_words(out: &mut [u8], left: u32, right: u32)
     put_hex(&mut out[8..], 8, right);
 }
 
-fn put_register(out: &mut [u8], v: Register)
+pub(crate) fn put_register(out: &mut [u8], v: Register)
     requires { ⌜ 32 ≤ length (now out) ⌝ }
     ensures { λ _. ⌜ now (out .exit) ≡ atFront (registerText v) (now (out .entry)) ⌝ }
 {

@@ -8,6 +8,7 @@ ghost use Rattle.row_rules.specs.Text.{rowSize, rowText, rowAt};
 
 pub mod digits;
 mod fields;
+pub mod values;
 
 use crate::fields::put_begin;
 use crate::fields::put_end;

@@ -12,7 +12,7 @@ use Rattle.table.specs.declared.Target.the-variants.{None, To}
 use Rattle.table.specs.Fields.{isLi, isMultiply, isLong, isSubtract, isHigh, codeOf, rdOf}
 use Rattle.table.specs.Operation.{Operation, multiplyRow, shortRows, operationOf, readsOf, takesFirst, takesSecond, takesThird, isNop, targetOf}
 use Rattle.table.specs.Operation.Operation.{li, simal, simah, simsl, simsh, slmal, slmah, slmsl, slmsh}
-use Rattle.table.specs.Refusal.{SHORT, COUNT, REGS, PLACE, LENGTH, WORD, POINTER, DRAINED, ROOM, STATE, NAME, OPERANDS, LINES}
+use Rattle.table.specs.Refusal.{SHORT, COUNT, REGS, PLACE, LENGTH, WORD, POINTER, DRAINED, ROOM, STATE, NAME, OPERANDS, LINES, BUSY}
 use Rattle.table.proofs.Rows.{each-choice}
 use Rattle.table.specs.Operation.Operation.{nop, shrhi, au, cntih, ahs, or, bcw, maxws, minws, mlhu, mlhcu, and, clzw, rotw, sfwu, sfhs}
 
@@ -96,7 +96,7 @@ writes-by-operation w = ap (λ (t : Bool). cond t None (To (rdOf w))) (sym (nop-
 
 -- ---- refusal numbers
 
--- in the documents' order they are 1 to 10, then 11 to 13
-pub refusal-numbers : (SHORT ∷ COUNT ∷ REGS ∷ PLACE ∷ LENGTH ∷ WORD ∷ POINTER ∷ DRAINED ∷ ROOM ∷ STATE ∷ NAME ∷ OPERANDS ∷ LINES ∷ [])
-    ≡ (1 ∷ 2 ∷ 3 ∷ 4 ∷ 5 ∷ 6 ∷ 7 ∷ 8 ∷ 9 ∷ 10 ∷ 11 ∷ 12 ∷ 13 ∷ [])
+-- in the documents' order they are 1 to 10, then 11 to 13, then 18
+pub refusal-numbers : (SHORT ∷ COUNT ∷ REGS ∷ PLACE ∷ LENGTH ∷ WORD ∷ POINTER ∷ DRAINED ∷ ROOM ∷ STATE ∷ NAME ∷ OPERANDS ∷ LINES ∷ BUSY ∷ [])
+    ≡ (1 ∷ 2 ∷ 3 ∷ 4 ∷ 5 ∷ 6 ∷ 7 ∷ 8 ∷ 9 ∷ 10 ∷ 11 ∷ 12 ∷ 13 ∷ 18 ∷ [])
 refusal-numbers = refl

@@ -44,6 +44,9 @@ OPERANDS = 12
 abbrev pub LINES : ℕ
 LINES = 13
 
+abbrev pub BUSY : ℕ
+BUSY = 18
+
 -- "an instruction word of 2^25 or more; the first such place is returned": that place, or the number of words where there is none
 unfoldable pub firstBad : List ℕ → ℕ
 firstBad [] = 0

@@ -31,6 +31,8 @@ pub const OPERANDS: u32 = 12;
 
 pub const LINES: u32 = 13;
 
+pub const BUSY: u32 = 18;
+
 // 2^25: a word of this or more is bad, no instruction.
 const LIMIT: u32 = 0x200_0000;
 

@@ -6,21 +6,13 @@ use console::output::say_unreadable;
 use console::output::write_number;
 use console::output::write_refused_line;
 use libc::STDOUT_FILENO;
-use row::digits;
+use row::values::word_text;
 use text_reader::BYTES_TO_READ;
 use text_reader::read_text;
 
-// Seven hex digits and a newline, from the last digit back.
 fn print_word(word: u32) {
-    let mut line = [b'\n'; 8];
-    let mut rest = word;
-    let mut i = 7;
-    while i > 0 {
-        i -= 1;
-        line[i] = digits::hex(rest);
-        rest /= 16;
-    }
-    print(&line);
+    print(&word_text(word));
+    print(b"\n");
 }
 
 fn print_words(words: &[u32]) {

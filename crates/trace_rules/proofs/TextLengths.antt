@@ -19,9 +19,9 @@ end-long : (c : ℕ) → length (endText c) ≡ 7
 unfolding endText twoDigits
 end-long c = refl
 
-module _ (u : Unit) (made : wellMadeOf u ≡ true) where
+module _ (u : Unit) (made : wellMadeOf u ≡ true) (went : u .gone ≡ true) where
   cycles-left : cyclesLeft u ≡ lastOf (u .program .n .0) - u .cycle
-  cycles-left = ap (λ (r : Ran). r .made) (ran u (well-made-says u made) mostCycles) ∙ omega (arith, last-small u made)
+  cycles-left = ap (λ (r : Ran). r .made) (ran u went (well-made-says u made) mostCycles) ∙ omega (arith, last-small u made)
 
   pub trace-is : {last : ℕ} → last ≡ lastOf (u .program .n .0) → rowsOf (last - u .cycle) u ++ endText (last - u .cycle) ≡ traceText u
   unfolding traceText

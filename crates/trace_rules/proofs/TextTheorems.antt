@@ -1,68 +1,80 @@
 -- For the reader of specs/: how much of a file decides, how long a text is and what room it takes, what is left of the buffer, and which text is printed when.
 -- Assumes nothing.
-use Rattle.trace_rules.proofs.Shared.{atFront, twoDigits, last-small, Unit, started-is, TextAnswer, rowsOf, endText, refusedText, textFor}
+use Rattle.trace_rules.proofs.Shared.{atFront, twoDigits, last-small, Unit, load-reads, fresh-drained, TextAnswer, rowsOf, endText, refusedText, textFor}
 use Rattle.trace_rules.proofs.Shared.{jobText, putOf, writeTextOf, largestText, wholeTextOf, bytesToRead}
 use Rattle.unit_rules.proofs.Shared.{ℕ, _-_, _≤_, _≡_, refl, sym, ap, _∙_, Bool, true, false, List, [], _∷_, _++_, arith, ltb-true}
 use Rattle.unit_rules.proofs.Shared.{ltb-false, eqb-true, eqb-false, ltb, eqb, length, take, replicate, length-append, length-drop, length-replicate}
-use Rattle.unit_rules.proofs.Shared.{take-at, take-all, firstBad, ReadJob, LARGEST, headerOf, testedOf, bodyOf, lastOf, freshOf, startedBy}
-use Rattle.unit_rules.proofs.Shared.{startOf}
+use Rattle.unit_rules.proofs.Shared.{take-at, take-all, firstBad, ReadJob, LARGEST, headerOf, testedOf, bodyOf, lastOf, freshOf, loadedBy}
+use Rattle.unit_rules.proofs.Shared.{loadOf, goOf, drainedOf, wellMadeOf, instructionsAt, readOf}
 use Rattle.table.specs.Decided.{decided}
 use Rattle.table.proofs.Decided.{each}
 use Rattle.job_rules.proofs.TooLong.{first-bytes-decide}
 use Rattle.trace_rules.proofs.TextLengths.{trace-is, trace-long, refused-long}
-use Rattle.trace_rules.proofs.TextPut.{text-put, text-refused, text-accepted, started-made}
+use Rattle.trace_rules.proofs.TextPut.{text-put, text-refused, text-accepted, gone-made, went-on, none-made}
 
 -- ---- which text
 
+-- a load on a fresh unit is refused exactly as reading is, and with that number
+pub refused-as-read : (file : List ℕ) → loadOf file freshOf ≡ loadedBy (readOf instructionsAt file) freshOf
+refused-as-read file = load-reads file freshOf (fresh-drained .1) (fresh-drained .0)
+
+-- the unit that is traced
+abbrev pub goneWith : List ℕ → Unit
+goneWith file = goOf (loadOf file freshOf .unit) .unit
+
 -- "or only a line of `REFUSED` and the number"
-pub refused-text : (file : List ℕ) → (startOf file freshOf .refusal ≡ 0 → ⊥) → jobText file ≡ refusedText (startOf file freshOf .refusal)
+pub refused-text : (file : List ℕ) → (loadOf file freshOf .refusal ≡ 0 → ⊥) → jobText file ≡ refusedText (loadOf file freshOf .refusal)
 refused-text file h = sym (text-refused file refl refl h)
 
 -- "prints one row a cycle and then a line of `END` and the cycle count": n + 3 rows, and none where n is 0
-pub accepted-text : (file : List ℕ) → startOf file freshOf .refusal ≡ 0
-    → jobText file ≡ rowsOf (lastOf (startOf file freshOf .unit .program .n .0)) (startOf file freshOf .unit) ++ endText (lastOf (startOf file freshOf .unit .program .n .0))
+pub accepted-text : (file : List ℕ) → loadOf file freshOf .refusal ≡ 0
+    → jobText file ≡ rowsOf (lastOf (goneWith file .program .n .0)) (goneWith file) ++ endText (lastOf (goneWith file .program .n .0))
 accepted-text file h =
-    let u = startOf file freshOf .unit in
-    let none-made : u .cycle ≡ 0 = ap (λ (v : Unit). v .cycle) (started-is file freshOf h) in
+    let u = goneWith file in
+    let none : u .cycle ≡ 0 = none-made file refl refl refl in
     let all : lastOf (u .program .n .0) - u .cycle ≡ lastOf (u .program .n .0) = omega arith in
-    sym (text-accepted file refl refl h) ∙ sym (trace-is u (started-made file refl refl h) refl) ∙ ap (λ (c : ℕ). rowsOf c u ++ endText c) all
+    sym (text-accepted file refl refl refl h) ∙ sym (trace-is u (gone-made file refl refl refl) (went-on file refl refl refl) refl) ∙ ap (λ (c : ℕ). rowsOf c u ++ endText c) all
 
 -- the file of eight bytes, a job with no instructions: END 00
 pub empty-job : jobText (0 ∷ 0 ∷ 0 ∷ 0 ∷ 8 ∷ 0 ∷ 8 ∷ 0 ∷ []) ≡ 69 ∷ 78 ∷ 68 ∷ 32 ∷ 48 ∷ 48 ∷ 10 ∷ []
-unfolding endText rowsOf twoDigits startOf headerOf testedOf bodyOf decided firstBad
+unfolding endText rowsOf twoDigits loadOf goOf wellMadeOf drainedOf headerOf testedOf bodyOf decided firstBad
 empty-job = accepted-text (0 ∷ 0 ∷ 0 ∷ 0 ∷ 8 ∷ 0 ∷ 8 ∷ 0 ∷ []) refl
 
 -- the first so many bytes of a file decide its text: a file that is too long is refused as they are
 pub first-777-bytes : (file : List ℕ) → jobText (take bytesToRead file) ≡ jobText file
-unfolding jobText startOf
+unfolding jobText
 first-777-bytes file = go (ltb LARGEST (length file)) refl
   where
     go : (t : Bool) → ltb LARGEST (length file) ≡ t → jobText (take bytesToRead file) ≡ jobText file
-    go true q = sym (ap (λ (r : ReadJob). textFor (startedBy r freshOf)) (first-bytes-decide file (ltb-true LARGEST (length file) q)))
+    go true q =
+        ap textFor
+        (refused-as-read (take bytesToRead file)
+        ∙ sym (ap (λ (r : ReadJob). loadedBy r freshOf) (first-bytes-decide file (ltb-true LARGEST (length file) q)))
+        ∙ sym (refused-as-read file))
     go false q = ap jobText (take-all bytesToRead file (omega (arith, ltb-false LARGEST (length file) q)))
 
 -- ---- the room that it takes
 
 pub text-size : (file : List ℕ) → length (jobText file) ≤ largestText
-text-size file = go (eqb (startOf file freshOf .refusal) 0) refl
+text-size file = go (eqb (loadOf file freshOf .refusal) 0) refl
   where
-    go : (t : Bool) → eqb (startOf file freshOf .refusal) 0 ≡ t → length (jobText file) ≤ largestText
+    go : (t : Bool) → eqb (loadOf file freshOf .refusal) 0 ≡ t → length (jobText file) ≤ largestText
     go true q =
-        let ok = eqb-true (startOf file freshOf .refusal) 0 q in
-        let made = started-made file refl refl ok in
-        let u = startOf file freshOf .unit in
-        rw (← (text-accepted file refl refl ok)) (omega (arith, trace-long u made refl, last-small u made))
+        let ok = eqb-true (loadOf file freshOf .refusal) 0 q in
+        let made = gone-made file refl refl refl in
+        let u = goneWith file in
+        rw (← (text-accepted file refl refl refl ok)) (omega (arith, trace-long u made (went-on file refl refl refl) refl, last-small u made))
     go false q =
-        rw (refused-text file (eqb-false (startOf file freshOf .refusal) 0 q)) (omega (arith, refused-long (startOf file freshOf .refusal) .1))
+        rw (refused-text file (eqb-false (loadOf file freshOf .refusal) 0 q)) (omega (arith, refused-long (loadOf file freshOf .refusal) .1))
 
 -- and a job of 64 lines has one so large
-pub largest-reached : (file : List ℕ) → startOf file freshOf .refusal ≡ 0 → startOf file freshOf .unit .program .n .0 ≡ 64
+pub largest-reached : (file : List ℕ) → loadOf file freshOf .refusal ≡ 0 → goneWith file .program .n .0 ≡ 64
     → length (jobText file) ≡ largestText
 largest-reached file ok full =
-    let u = startOf file freshOf .unit in
-    let none-made : u .cycle ≡ 0 = ap (λ (v : Unit). v .cycle) (started-is file freshOf ok) in
+    let u = goneWith file in
+    let none : u .cycle ≡ 0 = none-made file refl refl refl in
     let end : lastOf (u .program .n .0) ≡ 67 = ap lastOf full in
-    rw (← (text-accepted file refl refl ok)) (omega (arith, trace-long u (started-made file refl refl ok) refl))
+    rw (← (text-accepted file refl refl refl ok)) (omega (arith, trace-long u (gone-made file refl refl refl) (went-on file refl refl refl) refl))
 
 pub always-room : (file buffer : List ℕ) → largestText ≤ length buffer
     → writeTextOf file buffer ≡ (record { refusal = 0; size = length (jobText file) }, atFront (jobText file) buffer)

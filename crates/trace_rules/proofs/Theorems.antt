@@ -1,10 +1,10 @@
 -- For the reader of specs/: what a row says is what happened. Carried by where the latches are (`Positions` of `unit_rules`) and by the cases of a latch.
 -- Assumes nothing.
 use Rattle.unit_rules.proofs.Shared.{ℕ, zero, suc, _+_, _-_, _<_, _≤_, _≡_, refl, sym, ap, subst, _∙_, _⊎_, ⊎-elim, Bool, true, false, cond, _&&_}
-use Rattle.unit_rules.proofs.Shared.{and-false, List, map, arith, leb-false, lt-ltb, lt-leb, ltb, length, take, DRAINED, ROOM, Register, Pointer, Target, None, isLi}
+use Rattle.unit_rules.proofs.Shared.{and-false, List, map, arith, leb-false, lt-ltb, lt-leb, le-leb, ltb-true, ltb-false, eqb, leb, ltb, length, take, STATE, DRAINED, ROOM, Register, Pointer, Target, None, isLi}
 use Rattle.unit_rules.proofs.Shared.{rdOf, firstOf, rs2Of, rs3Of, Operation, operationOf, readsOf, takesSecond, takesThird, isNop, targetOf, stored}
-use Rattle.unit_rules.proofs.Shared.{plain, instructionsAt, readOf, linesOf, instructionOf, instructionAt, fetchedIn, isTarget, afterWB, cycleOf, inDecoded}
-use Rattle.unit_rules.proofs.Shared.{inExecuted, decodedWith, lastOf, drainedOf, wellMadeOf, registersSet, startOf, cycledOf, Whole, afterCalls}
+use Rattle.unit_rules.proofs.Shared.{plain, linesOf, instructionOf, instructionAt, fetchedIn, isTarget, afterWB, cycleOf, inDecoded}
+use Rattle.unit_rules.proofs.Shared.{inExecuted, decodedWith, lastOf, drainedOf, wellMadeOf, goOf, cycledOf, Whole, afterCalls, unitAfter, cyclesIn}
 use Rattle.table.specs.declared.Target.the-variants.{To as ToRegister}
 use Rattle.table.specs.Operation.{multiplyRow, shortRows}
 use Rattle.table.proofs.Rows.{each-choice}
@@ -27,7 +27,8 @@ use Rattle.unit_rules.specs.declared.ExWb.{ExWb}
 use Rattle.unit_rules.specs.declared.ExWb.the-variants as EX/WB
 use Rattle.unit_rules.specs.declared.Unit.{Unit}
 use Rattle.unit_rules.specs.declared.Cycled.{Cycled}
-use Rattle.unit_rules.proofs.Positions.{placed-cycle, drained-is}
+use Rattle.unit_rules.specs.Sequence.Call.{row}
+use Rattle.unit_rules.proofs.Positions.{placed-cycle, drained-is, not-drained-gone}
 use Rattle.unit_rules.proofs.WellMade.{well-made-says, last-small}
 use Rattle.unit_rules.proofs.Demand3.{demand3-number, demand3-registers, demand3-cycle-answers}
 use Rattle.trace_rules.proofs.Going.{goes}
@@ -72,7 +73,7 @@ pub row-cycle : (u : Unit) → cycledOf u .refusal ≡ 0 → shownOf u .cycle �
 unfolding shownBy
 row-cycle u e =
     let going = goes u e in
-    let more = leb-false (lastOf (u .program .n .0)) (u .cycle) (sym (drained-is u (well-made-says u (going .made) .placed)) ∙ going .more) in
+    let more = leb-false (lastOf (u .program .n .0)) (u .cycle) (sym (drained-is u (not-drained-gone u (going .more)) (well-made-says u (going .made) .placed)) ∙ going .more) in
     omega (arith, more, last-small u (going .made))
 
 -- ---- the register written, and its new value
@@ -212,31 +213,56 @@ module _ (u : Unit) (start : ℕ) (buffer : List ℕ) where
       Same : Cycled × List ℕ → Type 0
       Same a = a .0 .refusal ≡ 0 → a .0 ≡ cycledOf u
 
--- ---- from a start
+  -- so it is the call `row` of a sequence (unit_rules/specs/Sequence.antt), with room or without, which leaves that unit and makes that many cycles
+  abbrev room : Bool
+  room = leb (start + rowSize) (length buffer)
 
-module _ (file : List ℕ) (u : Unit) (whole : Whole (u .registers)) (accepts : startOf file u .refusal ≡ 0) (c : ℕ)
-    (early : c < lastOf (readOf instructionsAt file .job .program .n .0)) where
+  abbrev AsCall : Cycled → Bool → Type 0
+  AsCall a t = (a .unit ≡ unitAfter (row t) u) × (_≡_ {A = ℕ} (cond (eqb (a .refusal) 0) 1 0) (cyclesIn (row t) u))
+
+  -- where the cycle without a row is refused too, there is none with room and none without
+  as-refused : (a : Cycled) → _≡_ {A = ℕ} (cond (eqb (a .refusal) 0) 1 0) 0 → a .unit ≡ u → cycledOf u ≡ a → (t : Bool) → AsCall a t
+  as-refused a none kept e true = (ap (λ (x : Cycled). x .unit) (sym e), ap (λ (x : Cycled). cond (eqb (x .refusal) 0) 1 0) (sym e))
+  as-refused a none kept e false = (kept, none)
+
+  pub row-is-a-call : AsCall (tracedOf u start buffer .0) room
+  unfolding tracedOf cycledOf
+  row-is-a-call =
+      apart _ _ Same _ _ (λ ill. as-refused (record { refusal = STATE; unit = u }) refl refl (sym (stops _ _ ill)) room)
+      (λ made. apart _ _ Same _ _ (λ done. as-refused (record { refusal = DRAINED; unit = u }) refl refl (sym (passes _ _ _ made (stops _ _ done))) room)
+      (λ more. apart _ _ Same _ _ (λ short. subst (AsCall (record { refusal = ROOM; unit = u })) (sym (lt-leb (start + rowSize) (length buffer) (ltb-true _ _ short))) (refl, refl))
+      (λ long. subst Same ends (with-room long (passes _ _ _ made (passes _ _ _ more ends))))))
+    where
+      Same : Cycled × List ℕ → Type 0
+      Same a = AsCall (a .0) room
+
+      with-room : ltb (length buffer) (start + rowSize) ≡ false → record { refusal = 0; unit = cycleOf u } ≡ cycledOf u
+          → AsCall (record { refusal = 0; unit = cycleOf u }) room
+      with-room long e =
+          subst (AsCall (record { refusal = 0; unit = cycleOf u })) (sym (le-leb (start + rowSize) (length buffer) (ltb-false (length buffer) (start + rowSize) long)))
+          (ap (λ (x : Cycled). x .unit) e, ap (λ (x : Cycled). cond (eqb (x .refusal) 0) 1 0) e)
+
+-- ---- from a go
+
+module _ (u : Unit) (whole : Whole (u .registers)) (made : wellMadeOf u ≡ true) (c : ℕ) (early : c < lastOf (u .program .n .0)) where
   abbrev before : Unit
-  before = afterCalls c (startOf file u .unit)
+  before = afterCalls c (goOf u .unit)
 
   abbrev lines : List ℕ
-  lines = linesOf (readOf instructionsAt file .job .program)
+  lines = linesOf (u .program)
 
-  abbrev set : List Register
-  set = registersSet (readOf instructionsAt file .job .r) (readOf instructionsAt file .job .registers) (u .registers)
-
-  -- the row of the c-th cycle since a start, counted from 1, shows c
-  pub started-number : shownOf before .cycle ≡ suc c
+  -- the row of the c-th cycle since a go, counted from 1, shows c
+  pub gone-number : shownOf before .cycle ≡ suc c
   unfolding shownBy
-  started-number = omega (arith, demand3-number file u whole accepts c (omega arith))
+  gone-number = omega (arith, demand3-number u whole made c (omega arith))
 
-  -- the row of cycle c + 1 of a started job shows by what the plain machine's next word changes the registers
-  pub started-row : plain (take (suc c - 3) lines) set ≡ changedBy (shownOf before .change) (plain (take (c - 3) lines) set)
-  started-row =
+  -- the row of cycle c + 1 since a go shows by what the plain machine's next word changes the registers
+  pub gone-row : plain (take (suc c - 3) lines) (u .registers) ≡ changedBy (shownOf before .change) (plain (take (c - 3) lines) (u .registers))
+  gone-row =
       let answers : cycledOf before .refusal ≡ 0
-      = rw (lt-leb (lastOf (readOf instructionsAt file .job .program .n .0)) c early) at (demand3-cycle-answers file u whole accepts c (omega arith)) in
+      = rw (lt-leb (lastOf (u .program .n .0)) c early) at (demand3-cycle-answers u whole made c (omega arith)) in
       let next : cycledOf before .unit ≡ cycleOf before = ap (λ (a : Cycled). a .unit) (goes before answers .gone) in
-      sym (demand3-registers file u whole accepts (suc c) (omega arith))
+      sym (demand3-registers u whole made (suc c) (omega arith))
       ∙ ap (λ (v : Unit). v .registers) next
       ∙ row-change before
-      ∙ ap (changedBy (shownOf before .change)) (demand3-registers file u whole accepts c (omega arith))
+      ∙ ap (changedBy (shownOf before .change)) (demand3-registers u whole made c (omega arith))

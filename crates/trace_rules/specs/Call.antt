@@ -15,7 +15,7 @@ use Rattle.unit_rules.specs.Cycle.{cycleOf}
 use Rattle.unit_rules.specs.Record.{drainedOf, wellMadeOf}
 use Rattle.trace_rules.specs.RowOfCycle.{shownOf}
 
--- "Every call on a unit but a start tests 10 first; then a cycle tests 8, with a trace row 8 and 9": the answer with the unit, and the buffer afterwards
+-- each call "tests 10 first; then a cycle tests 8, with a trace row 8 and 9": the answer with the unit, and the buffer afterwards
 unfoldable pub tracedOf : Unit → ℕ → List ℕ → Cycled × List ℕ
 tracedOf u start buffer =
     decided

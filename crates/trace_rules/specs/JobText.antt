@@ -10,9 +10,9 @@ use Rattle.table.specs.Decided.{decided}
 use Rattle.table.specs.Refusal.{ROOM}
 use Rattle.row_rules.specs.Text.{digit, twoDigits, behindSpace, newline, rowText}
 use Rattle.unit_rules.specs.declared.Unit.{Unit}
-use Rattle.unit_rules.specs.declared.Started.{Started}
+use Rattle.unit_rules.specs.declared.Loaded.{Loaded}
 use Rattle.unit_rules.specs.Cycle.{cyclesOf}
-use Rattle.unit_rules.specs.Calls.{freshOf, startOf, ranOf}
+use Rattle.unit_rules.specs.Calls.{freshOf, loadOf, goOf, ranOf}
 use Rattle.trace_rules.specs.RowOfCycle.{shownOf}
 use Rattle.trace_rules.specs.declared.TextAnswer.{TextAnswer}
 use Rattle.trace_rules.specs.declared.WholeText.{WholeText}
@@ -46,13 +46,13 @@ cyclesLeft u = ranOf u mostCycles .made
 unfoldable pub traceText : Unit → List ℕ
 traceText u = rowsOf (cyclesLeft u) u ++ endText (cyclesLeft u)
 
--- for a start on a fresh unit
-abbrev pub textFor : Started → List ℕ
-textFor s = cond (eqb (s .refusal) 0) (traceText (s .unit)) (refusedText (s .refusal))
+-- of a load as it came out: the trace of the unit once it goes
+abbrev pub textFor : Loaded → List ℕ
+textFor s = cond (eqb (s .refusal) 0) (traceText (goOf (s .unit) .unit)) (refusedText (s .refusal))
 
--- "reads a job from standard input, starts a fresh unit, prints ..."
+-- "reads a job from standard input, starts a fresh unit, prints ...": it loads on a fresh unit and goes
 unfoldable pub jobText : List ℕ → List ℕ
-jobText file = textFor (startOf file freshOf)
+jobText file = textFor (loadOf file freshOf)
 
 -- a text at the front of a lent buffer: 9 where it has too few bytes
 unfoldable pub putOf : List ℕ → List ℕ → TextAnswer × List ℕ

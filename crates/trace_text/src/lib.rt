@@ -56,7 +56,7 @@ fn refused(out: &mut [u8], number: u32) -> TextAnswer
 }
 
 fn trace(out: &mut [u8], u: Unit) -> TextAnswer
-    requires { ⌜ wellMadeOf u ≡ true ⌝ }
+    requires { ⌜ (wellMadeOf u ≡ true) × (u .gone ≡ true) ⌝ }
     ensures { λ r. ⌜ (r, now (out .exit)) ≡ putOf (traceText u) (now (out .entry)) ⌝ }
 {
     let cycles = last(u.program.n) - u.cycle;
@@ -78,12 +78,13 @@ pub fn write_text(file: &[u8], out: &mut [u8]) -> TextAnswer
     ensures { λ r. ⌜ (r, now (out .exit)) ≡ writeTextOf (now (file .entry)) (now (out .entry)) ⌝ }
 {
     let fresh = unit::fresh();
-    let started = unit::start(fresh, file);
-    let number = started.refusal;
+    let loaded = unit::load(fresh, file);
+    let number = loaded.refusal;
     if number != 0 {
         return refused(out, number);
     }
-    let u = started.unit;
+    let gone = unit::go(loaded.unit);
+    let u = gone.unit;
     trace(out, u)
 }
 

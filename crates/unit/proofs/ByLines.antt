@@ -8,7 +8,7 @@ use Rattle.unit_rules.specs.declared.Unit.{Unit}
 use Rattle.unit_rules.specs.declared.InFlight.{InFlight}
 use Rattle.unit_rules.specs.Settled.{settledFlight, Settled}
 use Rattle.unit_rules.proofs.Settled.{many, settled-on, settled-early, settled-in-two}
-use Rattle.unit_rules.proofs.WellMade.{well-made-says, last-small, well-made-test, well-made-cycles, cycles-join}
+use Rattle.unit_rules.proofs.WellMade.{well-made-says, last-small, well-made-test, well-made-cycles, gone-later, cycles-join}
 use Rattle.unit_rules.proofs.Positions.{cycles-program, cycles-number}
 
 -- the registers of a unit are 32: as a field of a struct the checker knows them as the fields of each
@@ -63,8 +63,9 @@ module _ (u : Unit) (made : wellMadeOf u ≡ true) where
     pub settled-then : Whole (u .registers) → Settled v
     settled-then whole = subst Settled (sym two) (settled-in-two u (well-made-says u made .placed) whole)
 
-    pub made-then : wellMadeOf v ≡ true
-    made-then = rw two (well-made-test (cyclesOf 2 u) (well-made-cycles u (well-made-says u made) 2 (omega arith)))
+    -- from cycle 2 on a unit has gone
+    pub made-then : 2 ≤ u .cycle → wellMadeOf v ≡ true
+    made-then late = rw two (well-made-test (cyclesOf 2 u) (well-made-cycles u (gone-later u (well-made-says u made) (omega arith)) (well-made-says u made) 2 (omega arith)))
 
     pub fits-then : v .cycle + (m - 2) ≤ lastOf (v .program .n .0)
     fits-then = rw (two, cycles-program 2 u, cycles-number 2 u) (omega arith)

@@ -1,4 +1,4 @@
-pub mod Starting
+pub mod Loading
 pub mod Loop
 pub mod Flight
 pub mod ByLines

@@ -9,8 +9,10 @@ use Rattle.unit.proofs.ask.drained.Kinds as drained-kinds
 use Rattle.unit.proofs.ask.drained.Reads as drained-reads
 use Rattle.unit.proofs.begin.fresh.Kinds as fresh-kinds
 use Rattle.unit.proofs.begin.fresh.Reads as fresh-reads
-use Rattle.unit.proofs.begin.start.Kinds as start-kinds
-use Rattle.unit.proofs.begin.start.Reads as start-reads
+use Rattle.unit.proofs.begin.load.Kinds as load-kinds
+use Rattle.unit.proofs.begin.load.Reads as load-reads
+use Rattle.unit.proofs.begin.go.Kinds as go-kinds
+use Rattle.unit.proofs.begin.go.Reads as go-reads
 use Rattle.unit.proofs.cycle.Kinds as cycle-kinds
 use Rattle.unit.proofs.cycle.Reads as cycle-reads
 use Rattle.unit.proofs.run.Kinds as run-kinds
@@ -25,8 +27,11 @@ drained-unique = by-value (λ κs a. no-requires) (λ κs a v w. refl)
 pub fresh-unique : Determined 0 fresh-kinds.ps fresh-kinds.r fresh-reads.requires fresh-reads.Post
 fresh-unique = by-value (λ κs a. no-requires) (λ κs a v w. refl)
 
-pub start-unique : Determined 1 start-kinds.ps start-kinds.r start-reads.requires start-reads.Post
-start-unique = by-value (λ κs a. no-requires) (λ κs a v w. refl)
+pub load-unique : Determined 1 load-kinds.ps load-kinds.r load-reads.requires load-reads.Post
+load-unique = by-value (λ κs a. no-requires) (λ κs a v w. refl)
+
+pub go-unique : Determined 0 go-kinds.ps go-kinds.r go-reads.requires go-reads.Post
+go-unique = by-value (λ κs a. no-requires) (λ κs a v w. refl)
 
 pub cycle-unique : Determined 0 cycle-kinds.ps cycle-kinds.r cycle-reads.requires cycle-reads.Post
 cycle-unique = by-value (λ κs a. no-requires) (λ κs a v w. refl)

@@ -1,20 +1,26 @@
-// How a unit begins: a fresh one, and a start on a job file.
+// How a unit begins: a fresh one; a job file loaded; and a go on what is loaded.
 
 ghost use Prim.Native.Nat.{_≤_};
 ghost use mathlib.Core.Path.{_≡_};
-ghost use Rattle.unit_rules.specs.Calls.{begunOf, registersSet, freshOf, startOf};
+ghost use Rattle.job_rules.specs.Layout.{instructionsAt};
+ghost use Rattle.job_rules.specs.Read.{readOf};
+ghost use Rattle.unit_rules.specs.Calls.{begunOf, registersSet, freshOf, loadedBy, loadOf, goOf};
 use job_rules::Program;
 use register::Register;
 use table::Count;
+use table::refusal;
+use unit_record::is_drained;
+use unit_record::well_made;
 use unit_rules::ExWb;
+use unit_rules::Gone;
 use unit_rules::IdEx;
 use unit_rules::IfId;
-use unit_rules::Started;
+use unit_rules::Loaded;
 use unit_rules::Unit;
 
 // A unit before its first cycle: the latches empty, count and cycle number zero.
-fn begun(program: Program, registers: [Register; 32]) -> Unit
-    ensures { λ r. ⌜ r ≡ begunOf program registers ⌝ }
+fn begun(gone: bool, program: Program, registers: [Register; 32]) -> Unit
+    ensures { λ r. ⌜ r ≡ begunOf gone program registers ⌝ }
 {
     Unit {
         program: program,
@@ -24,6 +30,7 @@ fn begun(program: Program, registers: [Register; 32]) -> Unit
         fetched: IfId::Empty,
         decoded: IdEx::Empty,
         executed: ExWb::Empty,
+        gone: gone,
     }
 }
 
@@ -35,7 +42,7 @@ pub fn fresh() -> Unit
     let words = [0u32; 64];
     let program = Program { words, n: Count(0) };
     let registers = [zero; 32];
-    begun(program, registers)
+    begun(false, program, registers)
 }
 
 // Registers 0 to r - 1 from the file; the others stay.
@@ -53,16 +60,15 @@ fn set_registers(from: [Register; 32], r: usize, old: [Register; 32]) -> [Regist
     registers
 }
 
-// Starts the job of a file: refused with 1 to 6, the first that holds, and then the unit is as it was given. It tests the file and no record, so it also starts
-// on a unit that is not well made.
-pub fn start(u: Unit, file: &[u8]) -> Started
-    ensures { λ r. ⌜ r ≡ startOf (now (file .entry)) u ⌝ }
+// Loads the job of a file on any unit: refused with 1 to 6, the first that holds.
+fn load_file(u: Unit, file: &[u8]) -> Loaded
+    ensures { λ r. ⌜ r ≡ loadedBy (readOf instructionsAt (now (file .entry))) u ⌝ }
 {
     let read = job_reader::read_job(file);
     let number = read.refusal;
     let place = read.place;
     if number != 0 {
-        return Started {
+        return Loaded {
             refusal: number,
             place: place,
             unit: u,
@@ -73,10 +79,51 @@ pub fn start(u: Unit, file: &[u8]) -> Started
     let from = job.registers;
     let program = job.program;
     let registers = set_registers(from, job.r, old);
-    let unit = begun(program, registers);
-    Started {
+    let unit = begun(false, program, registers);
+    Loaded {
         refusal: number,
         place: place,
         unit: unit,
+    }
+}
+
+// Loads the job of a file. Refused with 10, with 18 where a run is on its way, then with 1 to 6; and then the unit is as it was given, and a run that is on its way
+// goes on as before.
+pub fn load(u: Unit, file: &[u8]) -> Loaded
+    ensures { λ r. ⌜ r ≡ loadOf (now (file .entry)) u ⌝ }
+{
+    if well_made(u) {
+        if is_drained(u) {
+            return load_file(u, file);
+        }
+        return Loaded {
+            refusal: refusal::BUSY,
+            place: 0,
+            unit: u,
+        };
+    }
+    Loaded {
+        refusal: refusal::STATE,
+        place: 0,
+        unit: u,
+    }
+}
+
+// Begins the loaded program on the registers as they stand, from its first line, whatever the unit was doing. Refused with 10 only.
+pub fn go(u: Unit) -> Gone
+    ensures { λ r. ⌜ r ≡ goOf u ⌝ }
+{
+    if well_made(u) {
+        let program = u.program;
+        let registers = u.registers;
+        let unit = begun(true, program, registers);
+        return Gone {
+            refusal: 0,
+            unit: unit,
+        };
+    }
+    Gone {
+        refusal: refusal::STATE,
+        unit: u,
     }
 }

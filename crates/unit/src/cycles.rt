@@ -40,6 +40,7 @@ pub(crate) fn reassembled(
         fetched,
         decoded,
         executed,
+        gone: u.gone,
     }
 }
 

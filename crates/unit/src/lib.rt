@@ -11,7 +11,8 @@ mod settled;
 pub use crate::ask::drained;
 pub use crate::ask::register_of;
 pub use crate::begin::fresh;
-pub use crate::begin::start;
+pub use crate::begin::go;
+pub use crate::begin::load;
 use crate::cycles::one_by_one;
 use crate::settled::cycles;
 use table::refusal;
@@ -52,6 +53,13 @@ pub fn run(u: Unit, budget: u32) -> Ran
     ensures { λ r. ⌜ r ≡ ranOf u budget ⌝ }
 {
     if well_made(u) {
+        if is_drained(u) {
+            return Ran {
+                refusal: 0,
+                made: 0,
+                unit: u,
+            };
+        }
         let end = last(u.program.n);
         let made = lesser(budget, end - u.cycle);
         let after = cycles(u, made);

@@ -16,9 +16,10 @@ use denote.Struct.Field.{u32-field, uint-field}
 use denote.Struct.Laws as LL
 use Rattle.unit_rules.proofs.Cycled as C
 use Rattle.unit_rules.proofs.Ran as R
-use Rattle.unit_rules.proofs.Started as S
+use Rattle.unit_rules.proofs.Gone as G
+use Rattle.unit_rules.proofs.Loaded as L
 use Rattle.unit_lent.proofs.RunAnswer as R′
-use Rattle.unit_lent.proofs.StartAnswer as S′
+use Rattle.unit_lent.proofs.LoadAnswer as L′
 use Rattle.unit_lent.proofs.Steps.{IsUnit, closed, held, machine, typed}
 
 module _ {M : Type 1} {𝓤 : URA M} {H : Heap 𝓤} {A : Atoms 𝓤} {K : Type 0} {W : Given 𝓤 H A} {Γ : List (Item 𝓤)} {E : Env 𝓤 H} where
@@ -88,25 +89,47 @@ module _ (X : Handed) {M : Type 1} {𝓤 : URA M} {H : Heap 𝓤} {A : Atoms �
       assigns t (X .takes t s 4 l r at-s refl .1)
       (place-in t 0 at-0 (stop t)) (init t 6 refl (X .answer-typed 𝓤 H A W r v is)) $ closed t tt (X .unit r) b o (X .unit-is r v is) $ k)
 
--- ---- a refusal alone
+-- ---- a refusal alone, in the struct that is given
+
+module _ (given : Declared) (refusal : given .D → ℕ) (unit : given .D → Record)
+    (given-one : (x y : given .D) → _≡_ {A = ℕ × (Denots (fields unit-type) × Unit {0})}
+    (refusal x, (unit-type .to (unit x), tt)) (refusal y, (unit-type .to (unit y), tt)) → x ≡ y) where
+  abbrev refusing-type : Declared
+  refusing-type = record {
+    name = given .name;
+    args = [];
+    parts = u32-field ∷ unit-field ∷ [];
+    D = given .D;
+    to = λ r. (refusal r, (unit-type .to (unit r), tt));
+    to-one = given-one;
+  }
+
+  abbrev refusing-laws : LL.Laws refusing-type
+  refusing-laws = (LL.u32-laws, (unit-field-laws, tt))
+
+  abbrev pub refusing : Handed
+  refusing = record {
+    whole-type = refusing-type;
+    whole-laws = refusing-laws;
+    unit = unit;
+    at = 1;
+    answer-type = u32;
+    answer-mir = tyInt w32;
+    answer = refusal;
+    value = λ r. vint w32 (refusal r);
+    rest = λ s. rvOpd (copy (place s (field 0 ∷ [])));
+    unit-is = λ r v is. LL.owed refusing-type refusing-laws r (v ∷ []) is .1 .0;
+    answer-is = λ r v is. LL.owed refusing-type refusing-laws r (v ∷ []) is .0;
+    answer-typed = λ 𝓤 H A W r v is. uint-lawful 𝓤 H A W w32 .typed (refusal r) _ (LL.owed refusing-type refusing-laws r (v ∷ []) is .0) .0;
+    makes = λ 𝓤 H A W. uint-makes 𝓤 H A W w32;
+    takes = λ t s n l r at-s e. (field-of t s n 1 at-s e refl, of-opd t (field-of t s n 0 at-s e refl));
+  }
 
 abbrev pub cycled : Handed
-cycled = record {
-  whole-type = C.the-type;
-  whole-laws = C.Laws.the-laws;
-  unit = λ r. r .unit;
-  at = 1;
-  answer-type = u32;
-  answer-mir = tyInt w32;
-  answer = λ r. r .refusal;
-  value = λ r. vint w32 (r .refusal);
-  rest = λ s. rvOpd (copy (place s (field 0 ∷ [])));
-  unit-is = λ r v is. LL.owed C.the-type C.Laws.the-laws r (v ∷ []) is .1 .0;
-  answer-is = λ r v is. LL.owed C.the-type C.Laws.the-laws r (v ∷ []) is .0;
-  answer-typed = λ 𝓤 H A W r v is. uint-lawful 𝓤 H A W w32 .typed (r .refusal) _ (LL.owed C.the-type C.Laws.the-laws r (v ∷ []) is .0) .0;
-  makes = λ 𝓤 H A W. uint-makes 𝓤 H A W w32;
-  takes = λ t s n l r at-s e. (field-of t s n 1 at-s e refl, of-opd t (field-of t s n 0 at-s e refl));
-}
+cycled = refusing C.the-type (λ r. r .refusal) (λ r. r .unit) (C.the-type .to-one)
+
+abbrev pub gone : Handed
+gone = refusing G.the-type (λ r. r .refusal) (λ r. r .unit) (G.the-type .to-one)
 
 -- ---- a refusal and a number: the struct that is given, and the one that is kept once the unit is out of it
 
@@ -157,9 +180,9 @@ module _ (w : Width) (number-laws : LL.FLaws (uint-field w)) (given : Declared) 
         (field-of t s n 2 at-s e refl, agg t (and-then t (field-of t s n 0 at-s e refl) (and-then t (field-of t s n 1 at-s e refl) (no-more t))));
   }
 
-abbrev pub started : Handed
-started = told w64 LL.usize-laws S.the-type (λ r. r .unit) S′.the-type (λ r. record { refusal = r .refusal; place = r .place }) (S′.the-type .to)
-    (S′.the-type .to-one) (S.the-type .to-one)
+abbrev pub loaded : Handed
+loaded = told w64 LL.usize-laws L.the-type (λ r. r .unit) L′.the-type (λ r. record { refusal = r .refusal; place = r .place }) (L′.the-type .to)
+    (L′.the-type .to-one) (L.the-type .to-one)
 
 abbrev pub ran : Handed
 ran = told w32 LL.u32-laws R.the-type (λ r. r .unit) R′.the-type (λ r. record { refusal = r .refusal; made = r .made }) (R′.the-type .to)

@@ -1,21 +1,54 @@
--- For the reader of the contracts: after a refusal the unit and the buffer are what they were. Every contract speaks of the unit at entry alone, so the next call
--- answers as if the refused one had not been made, and a run in progress goes on as before. The two calls that ask take the unit by `&`, and change nothing.
+-- For the reader of the contracts: a call over a lent unit leaves the unit that the call of that name leaves in a sequence (unit_rules/specs/Sequence.antt), so that demand 3
+-- holds with these calls as with the others; after a refusal the unit and the buffer are what they were. The two calls that ask take the unit by `&`, and change nothing.
 -- Assumes nothing.
-use Rattle.unit_lent.proofs.Walking.{Args, AtExit, Lfts, Res, _∙_, _≡_, ap, now}
-use Rattle.unit_rules.specs.Calls.{startOf}
-use Rattle.unit_rules.proofs.Demand3.{demand3-start-refused}
+use Rattle.unit_lent.proofs.Walking.{Args, AtExit, Lfts, Res, _∙_, _≡_, ap, length, now}
+use Prim.Native.Nat.{_+_}
+use lib.Dec.{leb}
+use Rattle.row_rules.specs.Text.{rowSize}
+use Rattle.unit_rules.specs.Calls.{loadOf}
+use Rattle.unit_rules.specs.Sequence.{unitAfter}
+use Rattle.unit_rules.specs.Sequence.Call.{load as a-load, go as a-go, cycle as a-cycle, row as a-row, run as a-run}
+use Rattle.unit_rules.proofs.Demand3.{demand3-load-refused}
 use Rattle.unit_rules.proofs.Theorems as model
 use Rattle.trace_rules.proofs.Theorems as shown
-use Rattle.unit_lent.proofs.Unique.{cycle-promise, cycle-with-row-promise, run-promise, start-promise}
-use Rattle.unit_lent.proofs.start as start
+use Rattle.unit_lent.proofs.Unique.{load-promise, go-promise, cycle-promise, cycle-with-row-promise, run-promise}
+use Rattle.unit_lent.proofs.load as load
+use Rattle.unit_lent.proofs.go as go
 use Rattle.unit_lent.proofs.cycle as cycle
 use Rattle.unit_lent.proofs.cycle_with_row as cycle-with-row
 use Rattle.unit_lent.proofs.run as run
 
-pub start-refused : (κs : Lfts 2) (a : Args start.signature κs) (r : Res start.signature κs) (s : AtExit start.ended κs)
-    → start-promise κs a r s → (r .refusal ≡ 0 → ⊥) → now (s .0) ≡ now (a .0)
-unfolding startOf
-start-refused κs a r s p h = ap (λ z. z .unit) p ∙ demand3-start-refused (now (a .1 .0)) (now (a .0)) (λ e. h (ap (λ z. z .refusal) p ∙ e))
+-- ---- the unit afterwards
+
+pub load-as-a-call : (κs : Lfts 2) (a : Args load.signature κs) (r : Res load.signature κs) (s : AtExit load.ended κs)
+    → load-promise κs a r s → now (s .0) ≡ unitAfter (a-load (now (a .1 .0))) (now (a .0))
+load-as-a-call κs a r s p = ap (λ z. z .unit) p
+
+pub go-as-a-call : (κs : Lfts 1) (a : Args go.signature κs) (r : Res go.signature κs) (s : AtExit go.ended κs)
+    → go-promise κs a r s → now (s .0) ≡ unitAfter a-go (now (a .0))
+go-as-a-call κs a r s p = ap (λ z. z .unit) p
+
+pub cycle-as-a-call : (κs : Lfts 1) (a : Args cycle.signature κs) (r : Res cycle.signature κs) (s : AtExit cycle.ended κs)
+    → cycle-promise κs a r s → now (s .0) ≡ unitAfter a-cycle (now (a .0))
+cycle-as-a-call κs a r s p = ap (λ z. z .unit) p
+
+pub cycle-with-row-as-a-call : (κs : Lfts 2) (a : Args cycle-with-row.signature κs) (r : Res cycle-with-row.signature κs) (s : AtExit cycle-with-row.ended κs)
+    → cycle-with-row-promise κs a r s → now (s .0) ≡ unitAfter (a-row (leb (a .1 .1 .0 + rowSize) (length (now (a .1 .0))))) (now (a .0))
+cycle-with-row-as-a-call κs a r s p = ap (λ z. z .0 .unit) p ∙ shown.row-is-a-call (now (a .0)) (a .1 .1 .0) (now (a .1 .0)) .0
+
+pub run-as-a-call : (κs : Lfts 1) (a : Args run.signature κs) (r : Res run.signature κs) (s : AtExit run.ended κs)
+    → run-promise κs a r s → now (s .0) ≡ unitAfter (a-run (a .1 .0)) (now (a .0))
+run-as-a-call κs a r s p = ap (λ z. z .unit) p
+
+-- ---- after a refusal
+
+pub load-refused : (κs : Lfts 2) (a : Args load.signature κs) (r : Res load.signature κs) (s : AtExit load.ended κs)
+    → load-promise κs a r s → (r .refusal ≡ 0 → ⊥) → now (s .0) ≡ now (a .0)
+load-refused κs a r s p h = ap (λ z. z .unit) p ∙ demand3-load-refused (now (a .1 .0)) (now (a .0)) (λ e. h (ap (λ z. z .refusal) p ∙ e))
+
+pub go-refused : (κs : Lfts 1) (a : Args go.signature κs) (r : Res go.signature κs) (s : AtExit go.ended κs)
+    → go-promise κs a r s → (r ≡ 0 → ⊥) → now (s .0) ≡ now (a .0)
+go-refused κs a r s p h = ap (λ z. z .unit) p ∙ model.go-refused (now (a .0)) (λ e. h (ap (λ z. z .refusal) p ∙ e))
 
 pub cycle-refused : (κs : Lfts 1) (a : Args cycle.signature κs) (r : Res cycle.signature κs) (s : AtExit cycle.ended κs)
     → cycle-promise κs a r s → (r ≡ 0 → ⊥) → now (s .0) ≡ now (a .0)

@@ -5,19 +5,23 @@
 use mathlib.Core.Path.{_∙_, _≡_, refl, sym}
 use base.Logic.{emp, id⊢}
 use denote.Ref.{now}
-use Rattle.unit_rules.specs.Calls.{askedDrained, cycledOf, ranOf, registerOf, startOf}
+use Rattle.unit_rules.specs.Calls.{askedDrained, cycledOf, goOf, loadOf, ranOf, registerOf}
 use Rattle.trace_rules.specs.Call.{tracedOf}
 use Rattle.determined.specs.Determined.{Unique, Reading}
-use Rattle.unit_lent.specs.Lent.{cycledWith, ranWith, startedWith}
-use Rattle.unit_lent.proofs.start as start
+use Rattle.unit_lent.specs.Lent.{cycledWith, goneWith, loadedWith, ranWith}
+use Rattle.unit_lent.proofs.load as load
+use Rattle.unit_lent.proofs.go as go
 use Rattle.unit_lent.proofs.cycle as cycle
 use Rattle.unit_lent.proofs.cycle_with_row as cycle-with-row
 use Rattle.unit_lent.proofs.run as run
 use Rattle.unit_lent.proofs.register_of as register-of
 use Rattle.unit_lent.proofs.drained as drained
 
-abbrev pub start-promise : Reading start.ended
-start-promise κs a r s = startedWith r (now (s .0)) ≡ startOf (now (a .1 .0)) (now (a .0))
+abbrev pub load-promise : Reading load.ended
+load-promise κs a r s = loadedWith r (now (s .0)) ≡ loadOf (now (a .1 .0)) (now (a .0))
+
+abbrev pub go-promise : Reading go.ended
+go-promise κs a r s = goneWith r (now (s .0)) ≡ goOf (now (a .0))
 
 abbrev pub cycle-promise : Reading cycle.ended
 cycle-promise κs a r s = cycledWith r (now (s .0)) ≡ cycledOf (now (a .0))
@@ -34,13 +38,21 @@ register-of-promise κs a r s = r ≡ registerOf (now (a .0)) (a .1 .0)
 abbrev pub drained-promise : Reading drained.ended
 drained-promise κs a r s = r ≡ askedDrained (now (a .0))
 
-pub start-unique : Unique start.ended (λ M 𝓤 H. start.clauses 𝓤 H)
-start-unique = record {
-  Post = start-promise;
+pub load-unique : Unique load.ended (λ M 𝓤 H. load.clauses 𝓤 H)
+load-unique = record {
+  Post = load-promise;
   reads = λ 𝓤 H A mem run κs a g r s. refl;
   asks-nothing = λ 𝓤 H A mem run κs a. (tt, id⊢ 𝓤 (emp 𝓤));
   one-answer = λ κs a x y v w p q.
       let same = p ∙ sym q in ((λ i. record { refusal = same i .refusal; place = same i .place }), λ i. (same i .unit, v .1));
+}
+
+pub go-unique : Unique go.ended (λ M 𝓤 H. go.clauses 𝓤 H)
+go-unique = record {
+  Post = go-promise;
+  reads = λ 𝓤 H A mem run κs a g r s. refl;
+  asks-nothing = λ 𝓤 H A mem run κs a. (tt, id⊢ 𝓤 (emp 𝓤));
+  one-answer = λ κs a x y v w p q. let same = p ∙ sym q in ((λ i. same i .refusal), λ i. (same i .unit, v .1));
 }
 
 pub cycle-unique : Unique cycle.ended (λ M 𝓤 H. cycle.clauses 𝓤 H)

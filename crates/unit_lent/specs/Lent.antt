@@ -2,15 +2,20 @@
 -- Assumes nothing.
 use Prim.Native.Nat.{ℕ}
 use Rattle.unit_rules.specs.declared.Unit.{Unit}
-use Rattle.unit_rules.specs.declared.Started.{Started}
+use Rattle.unit_rules.specs.declared.Loaded.{Loaded}
+use Rattle.unit_rules.specs.declared.Gone.{Gone}
 use Rattle.unit_rules.specs.declared.Cycled.{Cycled}
 use Rattle.unit_rules.specs.declared.Ran.{Ran}
-use Rattle.unit_lent.specs.declared.StartAnswer.{StartAnswer}
+use Rattle.unit_lent.specs.declared.LoadAnswer.{LoadAnswer}
 use Rattle.unit_lent.specs.declared.RunAnswer.{RunAnswer}
 
--- of a start: the refusal and the place
-abbrev pub startedWith : StartAnswer → Unit → Started
-startedWith a u = record { refusal = a .refusal; place = a .place; unit = u }
+-- of a load: the refusal and the place
+abbrev pub loadedWith : LoadAnswer → Unit → Loaded
+loadedWith a u = record { refusal = a .refusal; place = a .place; unit = u }
+
+-- of a go: the refusal
+abbrev pub goneWith : ℕ → Unit → Gone
+goneWith refusal u = record { refusal = refusal; unit = u }
 
 -- of a cycle, with a row or without: the refusal
 abbrev pub cycledWith : ℕ → Unit → Cycled

@@ -1,15 +1,15 @@
 // The calls on a unit that is lent: it is updated where it stands, and on a refusal it stands as it was.
 
 ghost use mathlib.Core.Path.{_≡_};
-ghost use Rattle.unit_rules.specs.Calls.{startOf, cycledOf, ranOf, registerOf, askedDrained};
+ghost use Rattle.unit_rules.specs.Calls.{loadOf, goOf, cycledOf, ranOf, registerOf, askedDrained};
 ghost use Rattle.trace_rules.specs.Call.{tracedOf};
-ghost use Rattle.unit_lent.specs.Lent.{startedWith, cycledWith, ranWith};
+ghost use Rattle.unit_lent.specs.Lent.{loadedWith, goneWith, cycledWith, ranWith};
 use unit_rules::Drained;
 use unit_rules::RegisterAnswer;
 use unit_rules::Unit;
 
-// What a start answers beside the unit.
-pub struct StartAnswer {
+// What a load answers beside the unit.
+pub struct LoadAnswer {
     pub refusal: u32,
     pub place: usize,
 }
@@ -20,16 +20,26 @@ pub struct RunAnswer {
     pub made: u32,
 }
 
-// Starts the job of a file on the unit: 0, or 1 to 6, the first that holds, and with 6 the place of the first bad word.
-pub fn start(u: &mut Unit, file: &[u8]) -> StartAnswer
-    ensures { λ r. ⌜ startedWith r (now (u .exit)) ≡ startOf (now (file .entry)) (now (u .entry)) ⌝ }
+// Loads the job of a file on the unit: 0, 10 where the record is not well made, 18 where a run is on its way, or 1 to 6, the first that holds, and with 6 the place of
+// the first bad word.
+pub fn load(u: &mut Unit, file: &[u8]) -> LoadAnswer
+    ensures { λ r. ⌜ loadedWith r (now (u .exit)) ≡ loadOf (now (file .entry)) (now (u .entry)) ⌝ }
 {
-    let s = unit::start(*u, file);
+    let s = unit::load(*u, file);
     *u = s.unit;
-    StartAnswer {
+    LoadAnswer {
         refusal: s.refusal,
         place: s.place,
     }
+}
+
+// Begins the loaded program on the registers as they stand: 0, or 10.
+pub fn go(u: &mut Unit) -> u32
+    ensures { λ r. ⌜ goneWith r (now (u .exit)) ≡ goOf (now (u .entry)) ⌝ }
+{
+    let s = unit::go(*u);
+    *u = s.unit;
+    s.refusal
 }
 
 // Makes one cycle: 0, 10 where the record is not well made, or 8 where the unit is drained.

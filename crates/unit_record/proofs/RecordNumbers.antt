@@ -1,6 +1,6 @@
 -- The tests of a record's numbers in their order, each as it came out. Carried by rewriting with each test.
 -- Assumes nothing.
-use Rattle.unit_rules.proofs.Shared.{ℕ, _<_, _≤_, min, _≡_, sym, ap, _∙_, false, List, map, map-id, arith, length, le-leb, lt-leb, eqb, firstBad, linesOf, lastOf, numbersMade}
+use Rattle.unit_rules.proofs.Shared.{ℕ, _<_, _≤_, min, _≡_, sym, ap, _∙_, false, List, map, map-id, arith, length, le-leb, lt-leb, leb, eqb, firstBad, linesOf, lastOf, programMade, numbersMade}
 use Rattle.table.specs.declared.Count.{Count}
 use Rattle.job_rules.specs.declared.Program.{Program}
 
@@ -8,20 +8,19 @@ use Rattle.job_rules.specs.declared.Program.{Program}
 pub within : (l : List ℕ) (i n : ℕ) → length (map (λ (x : ℕ). x) l) ≡ n → i ≤ n → i ≤ length l
 within l i n e h = let f : length l ≡ n = sym (ap length (map-id l)) ∙ e in omega arith
 
-module _ (program : Program) (count c : ℕ) where
-  pub too-many-lines : 64 < program .n .0 → false ≡ numbersMade program count c
+module _ (program : Program) where
+  pub too-many-lines : 64 < program .n .0 → false ≡ programMade program
   too-many-lines h = rw (lt-leb _ _ h)
 
-  module _ (few : program .n .0 ≤ 64) {bad : ℕ} (first : bad ≡ firstBad (linesOf program)) where
-    pub bad-word : bad < program .n .0 → false ≡ numbersMade program count c
-    bad-word h = rw (le-leb _ _ few, ← first, lt-leb _ _ h)
+  pub words-decide : program .n .0 ≤ 64 → {bad : ℕ} → bad ≡ firstBad (linesOf program) → leb (program .n .0) bad ≡ programMade program
+  words-decide few first = rw (le-leb _ _ few, ← first)
 
-    module _ (good : program .n .0 ≤ bad) {end : ℕ} (last : end ≡ lastOf (program .n .0)) where
-      pub beyond-last : end < c → false ≡ numbersMade program count c
-      beyond-last h = rw (le-leb _ _ few, ← first, le-leb _ _ good, ← last, lt-leb _ _ h)
+module _ (n count c : ℕ) {end : ℕ} (last : end ≡ lastOf n) where
+  pub beyond-last : end < c → false ≡ numbersMade n count c
+  beyond-last h = rw (← last, lt-leb _ _ h)
 
-      pub count-decides : c ≤ end → {reached : Count} → reached ≡ record { 0 = min c (program .n .0) } → eqb count (reached .0) ≡ numbersMade program count c
-      count-decides h e = rw (le-leb _ _ few, ← first, le-leb _ _ good, ← last, le-leb _ _ h, e)
+  pub count-decides : c ≤ end → {reached : Count} → reached ≡ record { 0 = min c n } → eqb count (reached .0) ≡ numbersMade n count c
+  count-decides h e = rw (← last, le-leb _ _ h, e)
 
 -- ---- the count at a cycle
 

@@ -11,6 +11,8 @@ use Rattle.unit_record.proofs.numbers.cycles_before.Kinds as cycles-bef
 use Rattle.unit_record.proofs.numbers.cycles_before.Reads as cycles-before-reads
 use Rattle.unit_record.proofs.numbers.count_at.Kinds as count-at-kinds
 use Rattle.unit_record.proofs.numbers.count_at.Reads as count-at-reads
+use Rattle.unit_record.proofs.numbers.program_made.Kinds as program-made-kinds
+use Rattle.unit_record.proofs.numbers.program_made.Reads as program-made-reads
 use Rattle.unit_record.proofs.numbers.numbers_made.Kinds as numbers-made-kinds
 use Rattle.unit_record.proofs.numbers.numbers_made.Reads as numbers-made-reads
 use Rattle.unit_record.proofs.latches.in_decoded.Kinds as in-decoded-kinds
@@ -41,6 +43,9 @@ cycles-before-unique = by-value (λ κs a. no-requires) (λ κs a v w. refl)
 
 pub count-at-unique : Determined 0 count-at-kinds.ps count-at-kinds.r count-at-reads.requires count-at-reads.Post
 count-at-unique = by-value (λ κs a. no-requires) (λ κs a v w. refl)
+
+pub program-made-unique : Determined 0 program-made-kinds.ps program-made-kinds.r program-made-reads.requires program-made-reads.Post
+program-made-unique = by-value (λ κs a. no-requires) (λ κs a v w. refl)
 
 pub numbers-made-unique : Determined 0 numbers-made-kinds.ps numbers-made-kinds.r numbers-made-reads.requires numbers-made-reads.Post
 numbers-made-unique = by-value (λ κs a. no-requires) (λ κs a v w. refl)

@@ -1,8 +1,8 @@
 -- The tests of a record in their order, each as it came out. Carried by rewriting with each test.
 -- Assumes nothing.
 use Rattle.unit_rules.proofs.Shared.{ℕ, zero, suc, _-_, _<_, _≤_, _≡_, refl, Bool, true, false, List, arith, lt-ltb}
-use Rattle.unit_rules.proofs.Shared.{le-ltb, le-leb, lt-leb, getD, instructionOf, inDecoded, inExecuted, isEmpty}
-use Rattle.unit_rules.proofs.Shared.{drainedOf, afterIF, fetchedIn, sameHeld, latchesMade, numbersMade, wellMadeOf}
+use Rattle.unit_rules.proofs.Shared.{le-ltb, le-leb, lt-leb, eq-eqb, ne-eqb, getD, instructionOf, inDecoded, inExecuted, isEmpty, allEmpty}
+use Rattle.unit_rules.proofs.Shared.{drainedOf, afterIF, fetchedIn, sameHeld, latchesMade, programMade, numbersMade, runMade, restMade, wellMadeOf}
 use Rattle.table.specs.declared.Count.{Count}
 use Rattle.job_rules.specs.declared.Program.{Program}
 use Rattle.unit_rules.specs.declared.Instruction.{Instruction}
@@ -39,37 +39,66 @@ module _ (p : Program) (c : ℕ) (f d e : IfId) {x : IfId} (first : x ≡ fetche
     pub third-decides : t ≡ true → {two : ℕ} → two ≡ c - 2 → {z : IfId} → z ≡ fetchedIn p two → {r : Bool} → r ≡ sameHeld e z → r ≡ latchesMade p c f d e
     third-decides is′ before′ third o = rw (← first, ← same, is, ← before, ← second, ← same′, is′, ← before′, ← third) o
 
+-- ---- nothing in any of them
+
+module _ (f d e : IfId) {s : Bool} (first : s ≡ isEmpty f) where
+  pub held-in-IF/ID : s ≡ false → false ≡ allEmpty f d e
+  held-in-IF/ID h = rw (← first, h)
+
+  module _ (empty : s ≡ true) {t : Bool} (second : t ≡ isEmpty d) where
+    pub held-in-ID/EX : t ≡ false → false ≡ allEmpty f d e
+    held-in-ID/EX h = rw (← first, empty, ← second, h)
+
+    pub executed-decides : t ≡ true → {r : Bool} → r ≡ isEmpty e → r ≡ allEmpty f d e
+    executed-decides h o = rw (← first, empty, ← second, h) o
+
 -- ---- a record
 
-module _ (u : Unit) {t : Bool} (numbers : t ≡ numbersMade (u .program) (u .count .0) (u .cycle)) where
-  pub other-numbers : t ≡ false → false ≡ wellMadeOf u
-  unfolding wellMadeOf
+module _ (p : Program) (count c : ℕ) (f d e : IfId) {t : Bool} (numbers : t ≡ numbersMade (p .n .0) count c) where
+  pub other-numbers : t ≡ false → false ≡ runMade p count c f d e
   other-numbers h = rw (← numbers, h)
 
-  pub latches-decide : t ≡ true → {d e : IfId} → d ≡ inDecoded (u .decoded) → e ≡ inExecuted (u .executed)
-      → {s : Bool}
-      → s ≡ latchesMade (u .program) (u .cycle) (u .fetched) d e
-      → s ≡ wellMadeOf u
+  pub latches-decide : t ≡ true → {s : Bool} → s ≡ latchesMade p c f d e → s ≡ runMade p count c f d e
+  latches-decide h o = rw (← numbers, h) o
+
+module _ (count c : ℕ) (f d e : IfId) where
+  pub counted-before : (count ≡ 0 → ⊥) → false ≡ restMade count c f d e
+  counted-before h = rw (ne-eqb _ _ h)
+
+  module _ (none : count ≡ 0) where
+    pub cycles-before : (c ≡ 0 → ⊥) → false ≡ restMade count c f d e
+    cycles-before h = rw (eq-eqb _ _ none, ne-eqb _ _ h)
+
+    pub empty-decides : c ≡ 0 → {s : Bool} → s ≡ allEmpty f d e → s ≡ restMade count c f d e
+    empty-decides h o = rw (eq-eqb _ _ none, eq-eqb _ _ h) o
+
+module _ (u : Unit) {t : Bool} (program : t ≡ programMade (u .program)) where
+  pub other-program : t ≡ false → false ≡ wellMadeOf u
   unfolding wellMadeOf
-  latches-decide h decoded executed o = rw (← numbers, h, ← decoded, ← executed) o
+  other-program h = rw (← program, h)
+
+  module _ (good : t ≡ true) {d e : IfId} (decoded : d ≡ inDecoded (u .decoded)) (executed : e ≡ inExecuted (u .executed)) {s : Bool} where
+    pub run-decides : u .gone ≡ true → s ≡ runMade (u .program) (u .count .0) (u .cycle) (u .fetched) d e → s ≡ wellMadeOf u
+    unfolding wellMadeOf
+    run-decides went o = rw (← program, good, went, ← decoded, ← executed) o
+
+    pub rest-decides : u .gone ≡ false → s ≡ restMade (u .count .0) (u .cycle) (u .fetched) d e → s ≡ wellMadeOf u
+    unfolding wellMadeOf
+    rest-decides still o = rw (← program, good, still, ← decoded, ← executed) o
 
 -- ---- drained
 
 module _ (u : Unit) where
-  pub lines-left : u .count .0 < u .program .n .0 → false ≡ drainedOf u
+  pub not-gone : u .gone ≡ false → true ≡ drainedOf u
   unfolding drainedOf
-  lines-left h = rw (lt-leb _ _ h)
+  not-gone still = rw still
 
-  module _ (all : u .program .n .0 ≤ u .count .0) {s : Bool} (first : s ≡ isEmpty (u .fetched)) where
-    pub held-in-IF/ID : s ≡ false → false ≡ drainedOf u
+  module _ (went : u .gone ≡ true) where
+    pub lines-left : u .count .0 < u .program .n .0 → false ≡ drainedOf u
     unfolding drainedOf
-    held-in-IF/ID h = rw (le-leb _ _ all, ← first, h)
+    lines-left h = rw (went, lt-leb _ _ h)
 
-    module _ (empty : s ≡ true) {d : IfId} (decoded : d ≡ inDecoded (u .decoded)) {t : Bool} (second : t ≡ isEmpty d) where
-      pub held-in-ID/EX : t ≡ false → false ≡ drainedOf u
-      unfolding drainedOf
-      held-in-ID/EX h = rw (le-leb _ _ all, ← first, empty, ← decoded, ← second, h)
-
-      pub executed-decides : t ≡ true → {e : IfId} → e ≡ inExecuted (u .executed) → {r : Bool} → r ≡ isEmpty e → r ≡ drainedOf u
-      unfolding drainedOf
-      executed-decides h executed o = rw (le-leb _ _ all, ← first, empty, ← decoded, ← second, h, ← executed) o
+    pub emptied-decides : u .program .n .0 ≤ u .count .0 → {d e : IfId} → d ≡ inDecoded (u .decoded) → e ≡ inExecuted (u .executed) → {r : Bool}
+        → r ≡ allEmpty (u .fetched) d e → r ≡ drainedOf u
+    unfolding drainedOf
+    emptied-decides all decoded executed o = rw (went, le-leb _ _ all, ← decoded, ← executed) o

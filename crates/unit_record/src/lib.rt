@@ -2,7 +2,7 @@
 
 ghost use mathlib.Core.Path.{_≡_};
 ghost use lib.ListN.{getD};
-ghost use Rattle.unit_rules.specs.Record.{drainedOf, latchesMade, wellMadeOf};
+ghost use Rattle.unit_rules.specs.Record.{allEmpty, drainedOf, latchesMade, runMade, restMade, wellMadeOf};
 ghost use Rattle.unit_rules.specs.Cycle.{fetchedIn};
 
 pub mod latches;
@@ -15,6 +15,7 @@ use crate::latches::is_empty;
 use crate::latches::same_held;
 use crate::numbers::cycles_before;
 use crate::numbers::numbers_made;
+use crate::numbers::program_made;
 use table::Count;
 use unit_rules::IfId;
 use unit_rules::Unit;
@@ -29,7 +30,7 @@ fn word_at(words: &[u32], line: usize) -> u32
     0
 }
 
-// What IF delivers in cycle c, counted from 1 at the start: line c - 1, or nothing outside 0 .. n - 1.
+// What IF delivers in cycle c, counted from 1 at the go: line c - 1, or nothing outside 0 .. n - 1.
 pub fn fetched_in(words: &[u32], n: Count, c: u32) -> IfId
     ensures { λ r. ⌜ r ≡ fetchedIn (record { words = now (words .entry); n = n }) c ⌝ }
 {
@@ -61,26 +62,66 @@ fn latches_made(
     false
 }
 
+// Whether nothing is held in any latch.
+fn all_empty(fetched: IfId, decoded: IfId, executed: IfId) -> bool
+    ensures { λ r. ⌜ r ≡ allEmpty fetched decoded executed ⌝ }
+{
+    if is_empty(fetched) {
+        if is_empty(decoded) {
+            return is_empty(executed);
+        }
+    }
+    false
+}
+
+// Whether count, cycle number and latches are those of a unit that has gone.
+fn run_made(
+    words: &[u32],
+    n: Count,
+    count: Count,
+    c: u32,
+    fetched: IfId,
+    decoded: IfId,
+    executed: IfId,
+) -> bool
+    ensures { λ r. ⌜ r ≡ runMade (record { words = now (words .entry); n = n }) (count .0) c fetched decoded executed ⌝ }
+{
+    if numbers_made(n, count, c) {
+        return latches_made(words, n, c, fetched, decoded, executed);
+    }
+    false
+}
+
+// Whether they are those of a unit that is loaded and has not gone.
+fn rest_made(count: Count, c: u32, fetched: IfId, decoded: IfId, executed: IfId) -> bool
+    ensures { λ r. ⌜ r ≡ restMade (count .0) c fetched decoded executed ⌝ }
+{
+    if count.0 == 0 {
+        if c == 0 {
+            return all_empty(fetched, decoded, executed);
+        }
+    }
+    false
+}
+
 // Whether a record is well made: the test for refusal 10.
 pub fn well_made(u: Unit) -> bool
     ensures { λ r. ⌜ r ≡ wellMadeOf u ⌝ }
 {
     let program = u.program;
-    let count = u.count;
-    if numbers_made(program, count, u.cycle) {
-        let words = u.program.words;
-        let n = u.program.n;
+    if program_made(program) {
+        let count = u.count;
         let fetched = u.fetched;
-        let decoded = u.decoded;
-        let executed = u.executed;
-        return latches_made(
-            &words,
-            n,
-            u.cycle,
-            fetched,
-            in_decoded(decoded),
-            in_executed(executed),
-        );
+        let latch = u.decoded;
+        let decoded = in_decoded(latch);
+        let behind = u.executed;
+        let executed = in_executed(behind);
+        if u.gone {
+            let words = u.program.words;
+            let n = u.program.n;
+            return run_made(&words, n, count, u.cycle, fetched, decoded, executed);
+        }
+        return rest_made(count, u.cycle, fetched, decoded, executed);
     }
     false
 }
@@ -89,17 +130,15 @@ pub fn well_made(u: Unit) -> bool
 pub fn is_drained(u: Unit) -> bool
     ensures { λ r. ⌜ r ≡ drainedOf u ⌝ }
 {
-    let count = u.count;
-    if count.0 < u.program.n.0 {
-        return false;
-    }
-    let fetched = u.fetched;
-    let decoded = u.decoded;
-    let executed = u.executed;
-    if is_empty(fetched) {
-        if is_empty(in_decoded(decoded)) {
-            return is_empty(in_executed(executed));
+    if u.gone {
+        let count = u.count;
+        if count.0 < u.program.n.0 {
+            return false;
         }
+        let fetched = u.fetched;
+        let decoded = u.decoded;
+        let executed = u.executed;
+        return all_empty(fetched, in_decoded(decoded), in_executed(executed));
     }
-    false
+    true
 }

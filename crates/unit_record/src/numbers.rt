@@ -1,8 +1,8 @@
-// The numbers of a unit's record: the cycle at which a program is drained, and whether n, the count and the cycle number fit the program.
+// The numbers of a unit's record: the cycle at which a program is drained, and whether a program, the count and the cycle number are well made.
 
 ghost use Prim.Native.Nat.{_-_, min};
 ghost use mathlib.Core.Path.{_≡_};
-ghost use Rattle.unit_rules.specs.Record.{lastOf, numbersMade};
+ghost use Rattle.unit_rules.specs.Record.{lastOf, programMade, numbersMade};
 use job_rules::Program;
 use table::Count;
 use table::refusal;
@@ -47,19 +47,22 @@ pub fn count_at(n: Count, c: u32) -> Count
     n
 }
 
-// Whether n, the words, the cycle number and the count are those of a well-made record.
-pub fn numbers_made(program: Program, count: Count, cycle: u32) -> bool
-    ensures { λ r. ⌜ r ≡ numbersMade program (count .0) cycle ⌝ }
+// Whether n and the words are those of a well-made record.
+pub fn program_made(program: Program) -> bool
+    ensures { λ r. ⌜ r ≡ programMade program ⌝ }
 {
     let words = program.words;
-    let n = program.n;
-    let lines = n.0 as usize;
+    let lines = program.n.0 as usize;
     if lines > 64 {
         return false;
     }
-    if refusal::first_bad(&words[..lines]) < lines {
-        return false;
-    }
+    refusal::first_bad(&words[..lines]) >= lines
+}
+
+// Whether the cycle number and the count are those of a unit that has gone, with a program of n lines.
+pub fn numbers_made(n: Count, count: Count, cycle: u32) -> bool
+    ensures { λ r. ⌜ r ≡ numbersMade (n .0) (count .0) cycle ⌝ }
+{
     if last(n) < cycle {
         return false;
     }

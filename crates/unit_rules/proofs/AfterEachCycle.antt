@@ -27,7 +27,7 @@ pub last-cycles : map lastOf (0 ∷ 1 ∷ 64 ∷ []) ≡ (0 ∷ 4 ∷ 67 ∷ [])
 last-cycles = refl
 
 -- "when the count has reached n and all latches are empty": after four cycles, and not before
-pub drained-after-four : map (λ (c : ℕ). drainedOf (cyclesOf c (begunOf oneLine (replicate 32 zeroRegister)))) (0 ∷ 1 ∷ 2 ∷ 3 ∷ 4 ∷ [])
+pub drained-after-four : map (λ (c : ℕ). drainedOf (cyclesOf c (begunOf true oneLine (replicate 32 zeroRegister)))) (0 ∷ 1 ∷ 2 ∷ 3 ∷ 4 ∷ [])
     ≡ (false ∷ false ∷ false ∷ false ∷ true ∷ [])
 unfolding drainedOf cyclesOf cycleOf
 drained-after-four = refl

@@ -1,194 +1,318 @@
--- Demand 3: for any job that a start accepts, on any unit before it, whether or not its last job had finished. Stated over what the calls promise
--- (specs/Calls.antt), one after another (specs/Sequence.antt). A unit's file of registers is 32 long (`Whole`), as `[Register; 32]` is.
+-- Demand 3, which "counts from the last go, takes the registers as they stood then and holds until the next go or load": for every well-made unit, whatever it was doing before. Stated over what the calls
+-- promise (specs/Calls.antt), one after another (specs/Sequence.antt). A unit's file of registers is 32 long (`Whole`), as `[Register; 32]` is.
 -- Assumes nothing.
-use Rattle.unit_rules.proofs.Shared.{ℕ, _+_, _-_, _≤_, _<_, min, _≡_, refl, sym, ap, _∙_, Bool, true, false, cond, List, map, zero-add}
-use Rattle.unit_rules.proofs.Shared.{le-refl, arith, eq-eqb, eqb-true, leb-true, leb-false, eqb, leb, getD, take, length, take-all}
-use Rattle.unit_rules.proofs.Shared.{length-take-le, Register, zeroRegister, rowOf, DRAINED, plain, plainRows, registers-as-rows, Job}
-use Rattle.unit_rules.proofs.Shared.{instructionsAt, readOf, linesOf, Unit, fetchedIn, Cycled, cyclesOf, inDecoded, inExecuted, drainedOf, lastOf}
-use Rattle.unit_rules.proofs.Shared.{wellMadeOf, goneOf, registersSet, loadedOf, startOf, cycledOf, ranOf, askedDrained, Whole, afterCalls, Call}
-use Rattle.unit_rules.proofs.Shared.{unitAfterAll, cyclesInAll, unitWith}
+use Rattle.unit_rules.proofs.Shared.{ℕ, _+_, _-_, _≤_, _<_, min, _≡_, refl, sym, ap, subst, _∙_, _↔_, Bool, true, false, cond, List, map, zero-add}
+use Rattle.unit_rules.proofs.Shared.{le-refl, arith, eq-eqb, eqb-true, leb-true, leb-false, le-leb, eqb, leb, getD, take, length, take-all}
+use Rattle.unit_rules.proofs.Shared.{length-take-le, Register, zeroRegister, rowOf, DRAINED, STATE, BUSY, plain, plainRows, registers-as-rows, Job}
+use Rattle.unit_rules.proofs.Shared.{instructionsAt, readOf, linesOf, Unit, fetchedIn, Cycled, Ran, cyclesOf, inDecoded, inExecuted, drainedOf, lastOf}
+use Rattle.unit_rules.proofs.Shared.{wellMadeOf, begunOf, goneOf, registersSet, loadedOf, loadedBy, loadOf, goOf, cycledOf, ranOf, askedDrained, Whole, afterCalls}
+use Rattle.unit_rules.proofs.Shared.{Call, unitAfterAll, cyclesInAll, beginsInAll, unitWith}
 use Rattle.plain_rules.specs.Answer.{answerOf, executeAllOf}
 use Rattle.plain_rules.proofs.Refusals.{executed}
 use Rattle.table.proofs.Decided.{passes, ends, not-denied}
-use Rattle.unit_rules.specs.declared.Started.{Started}
+use Rattle.unit_rules.specs.declared.Loaded.{Loaded}
+use Rattle.unit_rules.specs.declared.Gone.{Gone}
 use Rattle.unit_rules.specs.declared.Drained.{Drained}
 use Rattle.unit_rules.specs.Settled.{settledFlight}
-use Rattle.unit_rules.proofs.Positions.{drained-after, cycles-program, cycles-number}
+use Rattle.unit_rules.proofs.Positions.{drained-after, drained-loaded, cycles-program, cycles-number, cycles-gone}
 use Rattle.unit_rules.proofs.Settled.{id-told, ex-told}
-use Rattle.unit_rules.proofs.WellMade.{WellMade, well-made-test, well-made-cycles, cycles-join, leftOf}
-use Rattle.unit_rules.proofs.Calls.{Sound, all-made, ran, start-refused, sound-read, started-is, set-from-file, left-as-they-were, well-made-started, unit-started, next-call, no-call, calls-are-cycles}
+use Rattle.unit_rules.proofs.WellMade.{WellMade, well-made-says, well-made-test, well-made-cycles, cycles-join, leftOf}
+use Rattle.unit_rules.proofs.Loading.{Sound, sound-read, load-ill-made, load-busy, load-reads, Taken, load-taken, load-sets, load-refused, go-begins, go-ill-made, left-as-they-were, set-whole, set-from-file, well-made-loaded, well-made-gone, enough-words, unit-gone}
+use Rattle.unit_rules.proofs.Calls.{next-call, no-call, calls-are-cycles, ran, cycle-of-drained, run-of-drained, all-made}
 
--- ---- the start
+-- ---- a go
 
--- A start answers the reader's refusal and place, for every file and every unit.
-pub demand3-start-answers : (file : List ℕ) (u : Unit)
-    → _≡_ {A = ℕ × ℕ} (startOf file u .refusal, startOf file u .place) (readOf instructionsAt file .refusal, readOf instructionsAt file .place)
-unfolding startOf
-demand3-start-answers file u = refl
+-- A go of a well-made unit is not refused: the program is begun on the registers as they stand.
+pub demand3-go : (u : Unit) → wellMadeOf u ≡ true → goOf u ≡ record { refusal = 0; unit = begunOf true (u .program) (u .registers) }
+demand3-go = go-begins
 
--- Refused, the unit comes back as it was given.
-pub demand3-start-refused : (file : List ℕ) (u : Unit) → (readOf instructionsAt file .refusal ≡ 0 → ⊥) → startOf file u .unit ≡ u
-demand3-start-refused = start-refused
+-- Go twice is go once, with the same answer.
+pub demand3-go-twice : (u : Unit) → goOf (goOf u .unit) ≡ goOf u
+demand3-go-twice u = case (wellMadeOf u) refl
+  where
+    case : (t : Bool) → wellMadeOf u ≡ t → goOf (goOf u .unit) ≡ goOf u
+    case true made =
+        let once = go-begins u made in
+        ap (λ (a : Gone). goOf (a .unit)) once
+        ∙ go-begins (goneOf u) (well-made-test (goneOf u) (well-made-gone u (well-made-says u made))) ∙ sym once
+    case false ill = ap (λ (a : Gone). goOf (a .unit)) (go-ill-made u ill)
 
--- No leftover matters: of two units with equal registers, whatever else differs, an accepted start makes the same unit, and gives the same answer.
-pub demand3-no-leftover : (file : List ℕ) (u v : Unit) → startOf file u .refusal ≡ 0 → u .registers ≡ v .registers → startOf file u ≡ startOf file v
-unfolding startOf
-demand3-no-leftover file u v e same = rw (eq-eqb _ _ e, same)
+-- by the last cycle all n lines are completed
+last-lines : (n : ℕ) → n ≤ lastOf n - 3
+last-lines n = go (eqb n 0) refl
+  where
+    go : (t : Bool) → eqb n 0 ≡ t → n ≤ cond t 0 (n + 3) - 3
+    go true q = omega (arith, eqb-true n 0 q)
+    go false q = omega arith
 
--- So after the same start both go through equal units, whatever is asked of them, with equal answers: any function of the started unit is equal.
-pub demand3-no-leftover-later : {A : Type 0} (answer : Unit → A) (file : List ℕ) (u v : Unit) → startOf file u .refusal ≡ 0 → u .registers ≡ v .registers
-    → (calls : List Call) → answer (unitAfterAll calls (startOf file u .unit)) ≡ answer (unitAfterAll calls (startOf file v .unit))
-demand3-no-leftover-later answer file u v e same calls = ap (λ (s : Started). answer (unitAfterAll calls (s .unit))) (demand3-no-leftover file u v e same)
-
-module _ (file : List ℕ) (u : Unit) (whole : Whole (u .registers)) (accepts : startOf file u .refusal ≡ 0) where
-  -- the job that the file holds: the n lines of its program; the registers as the start sets them; the unit then
-  abbrev job : Job
-  job = readOf instructionsAt file .job
-
+module _ (u : Unit) (whole : Whole (u .registers)) (made : wellMadeOf u ≡ true) where
+  -- the n lines of the loaded program; the unit after the go
   abbrev lines : List ℕ
-  lines = linesOf (job .program)
+  lines = linesOf (u .program)
 
   abbrev n : ℕ
-  n = job .program .n .0
-
-  abbrev set : List Register
-  set = registersSet (job .r) (job .registers) (u .registers)
-
-  abbrev started : Unit
-  started = startOf file u .unit
-
-  sound : Sound job
-  unfolding startOf
-  sound = sound-read file accepts
+  n = u .program .n .0
 
   abbrev gone : Unit
-  gone = goneOf (loadedOf job u)
+  gone = goOf u .unit
 
-  is-gone : started ≡ gone
-  is-gone = started-is file u accepts
+  abbrev begun : Unit
+  begun = goneOf u
 
-  made : WellMade gone
-  made = well-made-started job u sound
+  is-begun : gone ≡ begun
+  is-begun = ap (λ (a : Gone). a .unit) (go-begins u made)
+
+  before : WellMade u
+  before = well-made-says u made
+
+  w : WellMade begun
+  w = well-made-gone u before
 
   -- c calls of `cycle` are c cycles
-  are-cycles : (c : ℕ) → c ≤ lastOf n → afterCalls c started ≡ cyclesOf c gone
-  are-cycles c h = ap (afterCalls c) is-gone ∙ calls-are-cycles gone made c (omega arith)
+  are-cycles : (c : ℕ) → c ≤ lastOf n → afterCalls c gone ≡ cyclesOf c begun
+  are-cycles c h = ap (afterCalls c) is-begun ∙ calls-are-cycles begun refl w c (omega arith)
 
-  all-calls : (calls : List Call) → (cyclesInAll calls started ≤ lastOf n) × (unitAfterAll calls started ≡ cyclesOf (cyclesInAll calls started) gone)
+  all-calls : (calls : List Call) → beginsInAll calls gone ≡ false
+      → (cyclesInAll calls gone ≤ lastOf n) × (unitAfterAll calls gone ≡ cyclesOf (cyclesInAll calls gone) begun)
   unfolding cyclesOf
-  all-calls calls =
-      let a = all-made gone made calls 0 (omega arith) in
-      let same : cyclesInAll calls started ≡ cyclesInAll calls gone = ap (cyclesInAll calls) is-gone in (
+  all-calls calls none =
+      let a = all-made begun refl w calls 0 (omega arith) (sym (ap (beginsInAll calls) is-begun) ∙ none) in
+      let same : cyclesInAll calls gone ≡ cyclesInAll calls begun = ap (cyclesInAll calls) is-begun in (
         omega (arith, a .1, same),
-        ap (unitAfterAll calls) is-gone ∙ a .0 ∙ ap (λ (k : ℕ). cyclesOf k gone) (zero-add (cyclesInAll calls gone) ∙ sym same),
+        ap (unitAfterAll calls) is-begun ∙ a .0 ∙ ap (λ (k : ℕ). cyclesOf k begun) (zero-add (cyclesInAll calls begun) ∙ sym same),
       )
 
-  -- After c cycles the whole unit: its registers are what the plain machine leaves after the first c - 3 words, beginning from the registers as the start set
-  -- them; program, c and these registers tell count and latches, with the values that are latched; the rest is as the start left it.
-  pub demand3-unit : (c : ℕ) → c ≤ lastOf n → (let g = plain (take (c - 3) lines) set in afterCalls c started ≡ unitWith started c g (settledFlight (job .program) c g))
+  -- After c cycles the whole unit: its registers are what the plain machine leaves after the first c - 3 words, beginning from the registers as they stood at the
+  -- go; program, c and these registers tell count and latches, with the values that are latched; the rest is as the go left it.
+  pub demand3-unit : (c : ℕ) → c ≤ lastOf n
+      → (let g = plain (take (c - 3) lines) (u .registers) in afterCalls c gone ≡ unitWith gone c g (settledFlight (u .program) c g))
   demand3-unit c h =
-      let g = plain (take (c - 3) lines) set in
-      are-cycles c h ∙ unit-started job u sound whole c ∙ ap (λ (v : Unit). unitWith v c g (settledFlight (job .program) c g)) (sym is-gone)
+      let g = plain (take (c - 3) lines) (u .registers) in
+      are-cycles c h ∙ unit-gone u whole before c ∙ ap (λ (v : Unit). unitWith v c g (settledFlight (u .program) c g)) (sym is-begun)
 
   -- So the registers are these.
-  pub demand3-registers : (c : ℕ) → c ≤ lastOf n → afterCalls c started .registers ≡ plain (take (c - 3) lines) set
+  pub demand3-registers : (c : ℕ) → c ≤ lastOf n → afterCalls c gone .registers ≡ plain (take (c - 3) lines) (u .registers)
   demand3-registers c h = ap (λ (v : Unit). v .registers) (demand3-unit c h)
 
   -- Drained exactly at n + 3 cycles, or at once with n = 0, and never sooner.
-  pub demand3-drained : (c : ℕ) → c ≤ lastOf n → drainedOf (afterCalls c started) ≡ leb (lastOf n) c
-  demand3-drained c h = ap drainedOf (are-cycles c h) ∙ drained-after gone (made .placed) c ∙ ap (leb (lastOf n)) (zero-add c)
+  pub demand3-drained : (c : ℕ) → c ≤ lastOf n → drainedOf (afterCalls c gone) ≡ leb (lastOf n) c
+  demand3-drained c h = ap drainedOf (are-cycles c h) ∙ drained-after begun refl (w .placed) c ∙ ap (leb (lastOf n)) (zero-add c)
 
   -- Every record that is reached is well made.
-  pub demand3-well-made : (c : ℕ) → c ≤ lastOf n → wellMadeOf (afterCalls c started) ≡ true
-  demand3-well-made c h = ap wellMadeOf (are-cycles c h) ∙ well-made-test (cyclesOf c gone) (well-made-cycles gone made c (omega arith))
+  pub demand3-well-made : (c : ℕ) → c ≤ lastOf n → wellMadeOf (afterCalls c gone) ≡ true
+  demand3-well-made c h = ap wellMadeOf (are-cycles c h) ∙ well-made-test (cyclesOf c begun) (well-made-cycles begun refl w c (omega arith))
 
   -- And so it is answered where it is asked for.
-  pub demand3-asked : (c : ℕ) → c ≤ lastOf n → _≡_ {A = Drained} (askedDrained (afterCalls c started)) (record { refusal = 0; drained = leb (lastOf n) c })
+  pub demand3-asked : (c : ℕ) → c ≤ lastOf n → _≡_ {A = Drained} (askedDrained (afterCalls c gone)) (record { refusal = 0; drained = leb (lastOf n) c })
   unfolding askedDrained
   demand3-asked c h = sym (passes _ _ _ (not-denied (demand3-well-made c h)) (rw (demand3-drained c h) ends))
 
-  -- Its cycle number is the number of cycles since the start.
-  pub demand3-number : (c : ℕ) → c ≤ lastOf n → afterCalls c started .cycle ≡ c
-  demand3-number c h = ap (λ (v : Unit). v .cycle) (are-cycles c h) ∙ cycles-number c gone ∙ zero-add c
+  -- Its cycle number is the number of cycles since the go.
+  pub demand3-number : (c : ℕ) → c ≤ lastOf n → afterCalls c gone .cycle ≡ c
+  demand3-number c h = ap (λ (v : Unit). v .cycle) (are-cycles c h) ∙ cycles-number c begun ∙ zero-add c
 
   -- The latches hold what was fetched in cycles c, c-1 and c-2: instructions c-1, c-2 and c-3, or nothing outside 0 .. n-1.
   pub demand3-latches : (c : ℕ) → c ≤ lastOf n
-      → (afterCalls c started .fetched ≡ fetchedIn (job .program) c)
-      × (inDecoded (afterCalls c started .decoded) ≡ fetchedIn (job .program) (c - 1))
-      × (inExecuted (afterCalls c started .executed) ≡ fetchedIn (job .program) (c - 2))
+      → (afterCalls c gone .fetched ≡ fetchedIn (u .program) c)
+      × (inDecoded (afterCalls c gone .decoded) ≡ fetchedIn (u .program) (c - 1))
+      × (inExecuted (afterCalls c gone .executed) ≡ fetchedIn (u .program) (c - 2))
   demand3-latches c h =
       let e = demand3-unit c h in
-      let g = plain (take (c - 3) lines) set in (
+      let g = plain (take (c - 3) lines) (u .registers) in (
         ap (λ (v : Unit). v .fetched) e,
-        ap (λ (v : Unit). inDecoded (v .decoded)) e ∙ id-told (job .program) c g,
-        ap (λ (v : Unit). inExecuted (v .executed)) e ∙ ex-told (job .program) c g,
+        ap (λ (v : Unit). inDecoded (v .decoded)) e ∙ id-told (u .program) c g,
+        ap (λ (v : Unit). inExecuted (v .executed)) e ∙ ex-told (u .program) c g,
       )
 
   -- A call of `cycle` is refused with 8 exactly when the unit is drained.
-  pub demand3-cycle-answers : (c : ℕ) → c ≤ lastOf n → cycledOf (afterCalls c started) .refusal ≡ cond (leb (lastOf n) c) DRAINED 0
+  pub demand3-cycle-answers : (c : ℕ) → c ≤ lastOf n → cycledOf (afterCalls c gone) .refusal ≡ cond (leb (lastOf n) c) DRAINED 0
   demand3-cycle-answers c h =
       let e = ap (λ (v : Unit). cycledOf v .refusal) (are-cycles c h) in
       go (leb (lastOf n) c) refl e
     where
-      go : (t : Bool) → leb (lastOf n) c ≡ t → cycledOf (afterCalls c started) .refusal ≡ cycledOf (cyclesOf c gone) .refusal
-          → cycledOf (afterCalls c started) .refusal ≡ cond t DRAINED 0
-      go true q e = e ∙ ap (λ (a : Cycled). a .refusal) (no-call gone made c (omega (arith, leb-true (lastOf n) c q)))
-      go false q e = e ∙ ap (λ (a : Cycled). a .refusal) (next-call gone made c (omega (arith, leb-false (lastOf n) c q)))
+      go : (t : Bool) → leb (lastOf n) c ≡ t → cycledOf (afterCalls c gone) .refusal ≡ cycledOf (cyclesOf c begun) .refusal
+          → cycledOf (afterCalls c gone) .refusal ≡ cond t DRAINED 0
+      go true q e = e ∙ ap (λ (a : Cycled). a .refusal) (no-call begun refl w c (omega (arith, leb-true (lastOf n) c q)))
+      go false q e = e ∙ ap (λ (a : Cycled). a .refusal) (next-call begun refl w c (omega (arith, leb-false (lastOf n) c q)))
 
   -- A run with a budget k makes min(k, cycles left) cycles, answers that number, and leaves the unit that so many calls of `cycle` leave.
   pub demand3-run : (c : ℕ) → c ≤ lastOf n → (k : ℕ)
-      → (let m = min k (lastOf n - c) in ranOf (afterCalls c started) k ≡ record { refusal = 0; made = m; unit = afterCalls (c + m) started })
+      → (let m = min k (lastOf n - c) in ranOf (afterCalls c gone) k ≡ record { refusal = 0; made = m; unit = afterCalls (c + m) gone })
   demand3-run c h k =
       let m = min k (lastOf n - c) in
-      let v : Unit = cyclesOf c gone in
-      let left : leftOf v ≡ lastOf n - c = rw (cycles-program c gone, cycles-number c gone) (omega arith) in
+      let v : Unit = cyclesOf c begun in
+      let left : leftOf v ≡ lastOf n - c = rw (cycles-program c begun, cycles-number c begun) (omega arith) in
       ap (λ (x : Unit). ranOf x k) (are-cycles c h)
-      ∙ ran v (well-made-cycles gone made c (omega arith)) k
+      ∙ ran v (cycles-gone c begun) (well-made-cycles begun refl w c (omega arith)) k
       ∙ (λ i. record { refusal = 0; made = min k (left i); unit = cyclesOf (min k (left i)) v })
-      ∙ ap (λ (x : Unit). record { refusal = 0; made = m; unit = x }) (cycles-join c m gone ∙ sym (are-cycles (c + m) (omega arith)))
+      ∙ ap (λ (x : Unit). record { refusal = 0; made = m; unit = x }) (cycles-join c m begun ∙ sym (are-cycles (c + m) (omega arith)))
 
-  -- Until the next start: after any calls since then, of which c is the number of cycles made in them, the unit is the one that c calls of `cycle` leave,
-  -- and its registers are the plain machine's after the first c - 3 words.
-  pub demand3-until-the-next-start : (calls : List Call)
-      → (let c = cyclesInAll calls started in
-      (c ≤ lastOf n) × (unitAfterAll calls started ≡ afterCalls c started) × (unitAfterAll calls started .registers ≡ plain (take (c - 3) lines) set))
-  demand3-until-the-next-start calls =
-      let c = cyclesInAll calls started in
-      let a = all-calls calls in (
+  -- Until the next go or load: after any calls since then, of which c is the number of cycles made in them, the unit is the one that c calls of `cycle` leave,
+  -- its registers are the plain machine's after the first c - 3 words, and it is drained exactly when c is n + 3, or 0 with n = 0.
+  pub demand3-until-the-next-go-or-load : (calls : List Call) → beginsInAll calls gone ≡ false
+      → (let c = cyclesInAll calls gone in
+      (c ≤ lastOf n)
+      × (unitAfterAll calls gone ≡ afterCalls c gone)
+      × (unitAfterAll calls gone .registers ≡ plain (take (c - 3) lines) (u .registers))
+      × (drainedOf (unitAfterAll calls gone) ≡ leb (lastOf n) c))
+  demand3-until-the-next-go-or-load calls none =
+      let c = cyclesInAll calls gone in
+      let a = all-calls calls none in
+      let same : unitAfterAll calls gone ≡ afterCalls c gone = a .1 ∙ sym (are-cycles c (a .0)) in (
         a .0,
-        a .1 ∙ sym (are-cycles c (a .0)),
-        ap (λ (v : Unit). v .registers) (a .1 ∙ unit-started job u sound whole c),
+        same,
+        ap (λ (v : Unit). v .registers) same ∙ demand3-registers c (a .0),
+        ap drainedOf same ∙ demand3-drained c (a .0),
       )
 
   -- However a run is split into runs and single cycles, with other calls between: as many cycles leave the same unit.
-  pub demand3-any-split : (calls others : List Call) → cyclesInAll calls started ≡ cyclesInAll others started
-      → unitAfterAll calls started ≡ unitAfterAll others started
-  demand3-any-split calls others same =
-      demand3-until-the-next-start calls .1 ∙ ap (λ (c : ℕ). afterCalls c started) same ∙ sym (demand3-until-the-next-start others .1)
+  pub demand3-any-split : (calls others : List Call) → beginsInAll calls gone ≡ false → beginsInAll others gone ≡ false
+      → cyclesInAll calls gone ≡ cyclesInAll others gone → unitAfterAll calls gone ≡ unitAfterAll others gone
+  demand3-any-split calls others none none-here same =
+      demand3-until-the-next-go-or-load calls none .1
+      ∙ ap (λ (c : ℕ). afterCalls c gone) same
+      ∙ sym (demand3-until-the-next-go-or-load others none-here .1)
 
   -- As rows they are the rows of crate `plain`.
-  pub demand3-rows : (c : ℕ) → c ≤ lastOf n → map rowOf (afterCalls c started .registers) ≡ plainRows (take (c - 3) lines) (map rowOf set)
-  demand3-rows c h = ap (map rowOf) (demand3-registers c h) ∙ registers-as-rows (take (c - 3) lines) set
+  pub demand3-rows : (c : ℕ) → c ≤ lastOf n → map rowOf (afterCalls c gone .registers) ≡ plainRows (take (c - 3) lines) (map rowOf (u .registers))
+  demand3-rows c h = ap (map rowOf) (demand3-registers c h) ∙ registers-as-rows (take (c - 3) lines) (u .registers)
 
   -- Drained, they are what crate `plain` answers for the whole program.
-  pub demand3-drained-rows : executeAllOf lines (map rowOf set) ≡ answerOf 0 0 (map rowOf (afterCalls (lastOf n) started .registers))
+  pub demand3-drained-rows : executeAllOf lines (map rowOf (u .registers)) ≡ answerOf 0 0 (map rowOf (afterCalls (lastOf n) gone .registers))
   demand3-drained-rows =
-      executed lines (map rowOf set) (omega (arith, size, sound .few)) (omega (arith, size, sound .good))
+      executed lines (map rowOf (u .registers)) (omega (arith, size, before .few)) (omega (arith, size, before .good))
       ∙ ap (answerOf 0 0)
-      (ap (λ (p : List ℕ). plainRows p (map rowOf set)) (sym (take-all (lastOf n - 3) lines (omega (arith, size, end))))
+      (ap (λ (p : List ℕ). plainRows p (map rowOf (u .registers))) (sym (take-all (lastOf n - 3) lines (omega (arith, size, last-lines n))))
       ∙ sym (demand3-rows (lastOf n) (le-refl (lastOf n))))
     where
       size : length lines ≡ n
-      size = length-take-le n (job .program .words) (omega (arith, sound .few, sound .lines))
+      size = length-take-le n (u .program .words) (enough-words u before)
 
-      end : n ≤ lastOf n - 3
-      end = go (eqb n 0) refl
-        where
-          go : (t : Bool) → eqb n 0 ≡ t → n ≤ cond t 0 (n + 3) - 3
-          go true q = omega (arith, eqb-true n 0 q)
-          go false q = omega arith
+-- ---- a load
 
-  -- The registers as the start set them: 0 .. r-1 from the file, the others as they were.
+-- A load is accepted exactly where the unit is well made and drained and the file is good.
+pub demand3-load-accepted : (file : List ℕ) (u : Unit)
+    → (loadOf file u .refusal ≡ 0) ↔ ((wellMadeOf u ≡ true) × (drainedOf u ≡ true) × (readOf instructionsAt file .refusal ≡ 0))
+demand3-load-accepted file u = (
+  λ e. let t = load-taken file u e in (t .made, t .done, t .good),
+  λ t. ap (λ (a : Loaded). a .refusal) (load-sets file u (record { made = t .0; done = t .1; good = t .2 })),
+)
+
+-- Else it answers 10; of a well-made unit 18 where it is not drained; and then the reader's refusal and place.
+pub demand3-load-answers : (file : List ℕ) (u : Unit)
+    → (wellMadeOf u ≡ false → loadOf file u ≡ record { refusal = STATE; place = 0; unit = u })
+    × (wellMadeOf u ≡ true → drainedOf u ≡ false → loadOf file u ≡ record { refusal = BUSY; place = 0; unit = u })
+    × (wellMadeOf u ≡ true → drainedOf u ≡ true
+    → _≡_ {A = ℕ × ℕ} (loadOf file u .refusal, loadOf file u .place) (readOf instructionsAt file .refusal, readOf instructionsAt file .place))
+demand3-load-answers file u = (
+  load-ill-made file u,
+  load-busy file u,
+  λ made done. ap (λ (a : Loaded). (a .refusal, a .place)) (load-reads file u made done),
+)
+
+-- Refused, the unit comes back as it was given.
+pub demand3-load-refused : (file : List ℕ) (u : Unit) → (loadOf file u .refusal ≡ 0 → ⊥) → loadOf file u .unit ≡ u
+demand3-load-refused = load-refused
+
+-- No leftover matters: of two units that accept the same load with equal registers, whatever else differs, load makes equal units, with the same answer.
+pub demand3-no-leftover : (file : List ℕ) (u v : Unit) → loadOf file u .refusal ≡ 0 → loadOf file v .refusal ≡ 0 → u .registers ≡ v .registers
+    → loadOf file u ≡ loadOf file v
+demand3-no-leftover file u v taken taken-too same =
+    load-sets file u (load-taken file u taken)
+    ∙ (λ i. let job = readOf instructionsAt file .job in
+    record { refusal = 0; place = 0; unit = begunOf false (job .program) (registersSet (job .r) (job .registers) (same i)) })
+    ∙ sym (load-sets file v (load-taken file v taken-too))
+
+-- So after the same load both go through equal units, whatever is asked of them, with equal answers: any function of the unit is equal.
+pub demand3-no-leftover-later : {A : Type 0} (answer : Unit → A) (file : List ℕ) (u v : Unit) → loadOf file u .refusal ≡ 0 → loadOf file v .refusal ≡ 0
+    → u .registers ≡ v .registers → (calls : List Call) → answer (unitAfterAll calls (loadOf file u .unit)) ≡ answer (unitAfterAll calls (loadOf file v .unit))
+demand3-no-leftover-later answer file u v taken taken-too same calls =
+    ap (λ (s : Loaded). answer (unitAfterAll calls (s .unit))) (demand3-no-leftover file u v taken taken-too same)
+
+module _ (file : List ℕ) (u : Unit) (whole : Whole (u .registers)) (accepts : loadOf file u .refusal ≡ 0) where
+  -- the job that the file holds; the registers as the load sets them; the unit then
+  abbrev job : Job
+  job = readOf instructionsAt file .job
+
+  abbrev set : List Register
+  set = registersSet (job .r) (job .registers) (u .registers)
+
+  abbrev loaded : Unit
+  loaded = loadOf file u .unit
+
+  sound : Sound job
+  sound = sound-read file (load-taken file u accepts .good)
+
+  -- It has the file's program and these registers, count and cycle zero, the latches empty, and has not gone.
+  pub demand3-loaded : loaded ≡ begunOf false (job .program) set
+  demand3-loaded = ap (λ (a : Loaded). a .unit) (load-sets file u (load-taken file u accepts))
+
+  -- The registers as the load sets them: 0 .. r-1 from the file, the others as they were.
   pub demand3-set : (i : ℕ)
       → (i < job .r → getD set i zeroRegister ≡ getD (job .registers) i zeroRegister) × (job .r ≤ i → getD set i zeroRegister ≡ getD (u .registers) i zeroRegister)
   demand3-set i = (set-from-file (job .r) (job .registers) (u .registers) whole (sound .fewer) i, left-as-they-were (job .r) (job .registers) (u .registers) i)
+
+  pub demand3-loaded-made : Whole (loaded .registers) × (wellMadeOf loaded ≡ true)
+  demand3-loaded-made = (
+    ap (λ (v : Unit). length (v .registers)) demand3-loaded ∙ set-whole (job .r) (job .registers) (u .registers) whole,
+    ap wellMadeOf demand3-loaded ∙ well-made-test _ (well-made-loaded job u sound),
+  )
+
+  -- A loaded unit is drained; a cycle of it is refused with 8, and a run of it makes 0 cycles.
+  pub demand3-loaded-rests : (drainedOf loaded ≡ true)
+      × (cycledOf loaded ≡ record { refusal = DRAINED; unit = loaded })
+      × ((k : ℕ) → ranOf loaded k ≡ record { refusal = 0; made = 0; unit = loaded })
+  demand3-loaded-rests =
+      let done = drained-loaded loaded (ap (λ (v : Unit). v .gone) demand3-loaded) in
+      let made = demand3-loaded-made .1 in
+      (done, cycle-of-drained loaded made done, run-of-drained loaded made done)
+
+  -- Gone then, after c cycles its registers are what the plain machine leaves of the file's first c - 3 words, beginning from the registers as the load set them.
+  pub demand3-job : (c : ℕ) → c ≤ lastOf (job .program .n .0)
+      → afterCalls c (goOf loaded .unit) .registers ≡ plain (take (c - 3) (linesOf (job .program))) set
+  demand3-job c h =
+      demand3-registers loaded (demand3-loaded-made .0) (demand3-loaded-made .1) c (omega (arith, size))
+      ∙ (λ i. plain (take (c - 3) (linesOf (demand3-loaded i .program))) (demand3-loaded i .registers))
+    where
+      size : lastOf (loaded .program .n .0) ≡ lastOf (job .program .n .0)
+      size = ap (λ (v : Unit). lastOf (v .program .n .0)) demand3-loaded
+
+  -- the unit once all of the job is done
+  abbrev done : Unit
+  done = afterCalls (lastOf (job .program .n .0)) (goOf loaded .unit)
+
+  -- Loaded again then with a second file that is good, it is accepted, and what it has of the first job are the registers that the plain machine leaves after all
+  -- of its words, and nothing else.
+  pub demand3-second-load : (second : List ℕ) → readOf instructionsAt second .refusal ≡ 0
+      → (let next = readOf instructionsAt second .job in
+      loadOf second done
+      ≡ record { refusal = 0; place = 0; unit = begunOf false (next .program) (registersSet (next .r) (next .registers) (plain (linesOf (job .program)) set)) })
+  demand3-second-load second good =
+      let next = readOf instructionsAt second .job in
+      load-sets second done (record { made = made-done; done = all-done; good = good })
+      ∙ (λ i. record { refusal = 0; place = 0; unit = begunOf false (next .program) (registersSet (next .r) (next .registers) (left i)) })
+    where
+      n₁ : ℕ
+      n₁ = job .program .n .0
+
+      size : loaded .program .n .0 ≡ n₁
+      size = ap (λ (v : Unit). v .program .n .0) demand3-loaded
+
+      last : lastOf n₁ ≤ lastOf (loaded .program .n .0)
+      last = omega (arith, ap lastOf size)
+
+      made-done : wellMadeOf done ≡ true
+      made-done = demand3-well-made loaded (demand3-loaded-made .0) (demand3-loaded-made .1) (lastOf n₁) last
+
+      all-done : drainedOf done ≡ true
+      all-done =
+          demand3-drained loaded (demand3-loaded-made .0) (demand3-loaded-made .1) (lastOf n₁) last
+          ∙ le-leb (lastOf (loaded .program .n .0)) (lastOf n₁) (omega (arith, ap lastOf size))
+
+      left : done .registers ≡ plain (linesOf (job .program)) set
+      left =
+          demand3-job (lastOf n₁) (le-refl (lastOf n₁))
+          ∙ ap (λ (p : List ℕ). plain p set) (take-all (lastOf n₁ - 3) (linesOf (job .program)) (omega (arith, many, last-lines n₁)))
+        where
+          many : length (linesOf (job .program)) ≡ n₁
+          many = length-take-le n₁ (job .program .words) (omega (arith, sound .few, sound .lines))

@@ -6,6 +6,7 @@ pub mod WellMade
 pub mod AfterEachCycle
 pub mod AsPipeline
 pub mod Settled
+pub mod Loading
 pub mod Calls
 pub mod Theorems
 pub mod Demand3

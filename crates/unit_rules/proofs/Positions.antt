@@ -1,10 +1,10 @@
 -- Where count and latches stand, and when a unit is drained: of any record whose count and latches are where its cycle number puts them, whatever values
 -- are latched. Carried by the five places that a cycle number can have with regard to n.
 -- Assumes nothing.
-use Rattle.unit_rules.proofs.Shared.{ℕ, zero, suc, _+_, _-_, _≤_, _<_, min, _≡_, refl, sym, ap, _∙_, Bool, true, false, _&&_, and-false, List, add-one}
+use Rattle.unit_rules.proofs.Shared.{ℕ, zero, suc, _+_, _-_, _≤_, _<_, min, _≡_, refl, sym, ap, _∙_, Bool, true, false, _&&_, and-false, false≢true, List, add-one}
 use Rattle.unit_rules.proofs.Shared.{arith, lt-ltb, le-ltb, le-leb, lt-leb, leb-true, leb-false, ltb-true, ltb-false, eqb-true, eqb-false}
 use Rattle.unit_rules.proofs.Shared.{ne-eqb, eqb, ltb, leb, leb·zero, Register, IfId, IdEx, ExWb, Program, Unit, afterEX, afterID, afterIF}
-use Rattle.unit_rules.proofs.Shared.{countAfter, cycleOf, cyclesOf, fetchedIn, inDecoded, inExecuted, isEmpty, drainedOf, lastOf, inFlightOf, unitWith, add-zero}
+use Rattle.unit_rules.proofs.Shared.{countAfter, cycleOf, cyclesOf, fetchedIn, inDecoded, inExecuted, isEmpty, allEmpty, drainedOf, lastOf, inFlightOf, unitWith, add-zero}
 use Rattle.alu_rules.proofs.Integers.{either}
 use Rattle.unit_rules.proofs.Shared.IF/ID
 use Rattle.unit_rules.proofs.Shared.ID/EX
@@ -20,6 +20,11 @@ pub cycles-number : (c : ℕ) (u : Unit) → cyclesOf c u .cycle ≡ u .cycle + 
 unfolding cyclesOf cycleOf
 cycles-number zero u = omega arith
 cycles-number (suc c) u = let h = cycles-number c u in omega arith
+
+pub cycles-gone : (c : ℕ) (u : Unit) → cyclesOf c u .gone ≡ u .gone
+unfolding cyclesOf cycleOf
+cycles-gone zero u = refl
+cycles-gone (suc c) u = cycles-gone c u
 
 -- all that they change are registers, what is in flight and the cycle number
 pub taken-apart : (c : ℕ) (u : Unit) → cyclesOf c u ≡ unitWith u c (cyclesOf c u .registers) (inFlightOf (cyclesOf c u))
@@ -91,12 +96,12 @@ nothing : (p : Program) (c : ℕ) → p .n .0 < c → isEmpty (fetchedIn p c) �
 nothing p zero h = refl
 nothing p (suc k) h = rw (le-ltb k (p .n .0) (omega arith))
 
-allEmpty : Program → ℕ → Bool
-allEmpty p c = leb (p .n .0) (min c (p .n .0)) && isEmpty (fetchedIn p c) && isEmpty (fetchedIn p (c - 1)) && isEmpty (fetchedIn p (c - 2))
+emptied : Program → ℕ → Bool
+emptied p c = leb (p .n .0) (min c (p .n .0)) && allEmpty (fetchedIn p c) (fetchedIn p (c - 1)) (fetchedIn p (c - 2))
 
-drained-held : (u : Unit) → Placed u → drainedOf u ≡ allEmpty (u .program) (u .cycle)
-unfolding drainedOf allEmpty
-drained-held u h = rw (h .counted, h .in-IF/ID, h .in-ID/EX, h .in-EX/WB)
+drained-held : (u : Unit) → u .gone ≡ true → Placed u → drainedOf u ≡ emptied (u .program) (u .cycle)
+unfolding drainedOf emptied
+drained-held u went h = rw (went, h .counted, h .in-IF/ID, h .in-ID/EX, h .in-EX/WB)
 
 -- c is past the last cycle; before n; or n, n + 1 or n + 2
 data Where (n c : ℕ) : Type 0 where
@@ -117,8 +122,8 @@ whereabouts n c = go (leb (n + 3) c) (ltb c n) (eqb c n) (eqb c (n + 1)) refl re
     go false false false false qs qt qx qy =
         at-2 (omega (arith, leb-false (n + 3) c qs, ltb-false c n qt, eqb-false c n qx, eqb-false c (n + 1) qy))
 
-all-empty : (words : List ℕ) (n c : ℕ) → allEmpty (record { words = words; n = record { 0 = n } }) c ≡ leb (lastOf n) c
-unfolding allEmpty
+all-empty : (words : List ℕ) (n c : ℕ) → emptied (record { words = words; n = record { 0 = n } }) c ≡ leb (lastOf n) c
+unfolding emptied
 all-empty words zero c = simp (no-lines, leb·zero)
   where
     no-lines : (k : ℕ) → isEmpty (fetchedIn (record { words = words; n = record { 0 = 0 } }) k) ≡ true
@@ -129,7 +134,7 @@ all-empty words (suc n) c = rw (ne-eqb (suc n) 0 (omega arith)) (go (whereabouts
     p : Program
     p = record { words = words; n = record { 0 = suc n } }
 
-    go : Where (suc n) c → allEmpty p c ≡ leb (suc n + 3) c
+    go : Where (suc n) c → emptied p c ≡ leb (suc n + 3) c
     go (past h) =
         simp (
           le-leb (suc n + 3) c h,
@@ -143,9 +148,22 @@ all-empty words (suc n) c = rw (ne-eqb (suc n) 0 (omega arith)) (go (whereabouts
     go (at-1 h) = simp (lt-leb (suc n + 3) c (omega arith), something p (c - 1) (omega arith) (omega arith), and-false)
     go (at-2 h) = simp (lt-leb (suc n + 3) c (omega arith), something p (c - 2) (omega arith) (omega arith), and-false)
 
--- drained exactly from the last cycle on
-pub drained-is : (u : Unit) → Placed u → drainedOf u ≡ leb (lastOf (u .program .n .0)) (u .cycle)
-drained-is u h = drained-held u h ∙ all-empty (u .program .words) (u .program .n .0) (u .cycle)
+-- a unit that has gone is drained exactly from the last cycle on
+pub drained-is : (u : Unit) → u .gone ≡ true → Placed u → drainedOf u ≡ leb (lastOf (u .program .n .0)) (u .cycle)
+drained-is u went h = drained-held u went h ∙ all-empty (u .program .words) (u .program .n .0) (u .cycle)
 
-pub drained-after : (u : Unit) → Placed u → (c : ℕ) → drainedOf (cyclesOf c u) ≡ leb (lastOf (u .program .n .0)) (u .cycle + c)
-drained-after u h c = drained-is (cyclesOf c u) (placed-cycles c u h) ∙ rw (cycles-program c u, cycles-number c u)
+pub drained-after : (u : Unit) → u .gone ≡ true → Placed u → (c : ℕ) → drainedOf (cyclesOf c u) ≡ leb (lastOf (u .program .n .0)) (u .cycle + c)
+drained-after u went h c =
+    drained-is (cyclesOf c u) (cycles-gone c u ∙ went) (placed-cycles c u h) ∙ rw (cycles-program c u, cycles-number c u)
+
+-- one that has not gone is
+pub drained-loaded : (u : Unit) → u .gone ≡ false → drainedOf u ≡ true
+unfolding drainedOf
+drained-loaded u still = rw still
+
+pub not-drained-gone : (u : Unit) → drainedOf u ≡ false → u .gone ≡ true
+not-drained-gone u h = go (u .gone) refl
+  where
+    go : (t : Bool) → u .gone ≡ t → t ≡ true
+    go true q = refl
+    go false q = absurd (false≢true (sym h ∙ drained-loaded u q))

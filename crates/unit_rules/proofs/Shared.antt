@@ -1,17 +1,17 @@
 -- What the proofs of this crate and of those above it bring in from elsewhere, in one place: libraries, definitions, and laws of the crates below.
 -- Assumes nothing.
-pub use Prim.Native.Nat.{ℕ, zero, suc, _-_, _≤_, _<_, min, _+_, _%_, _*_}
+pub use Prim.Native.Nat.{ℕ, zero, suc, _-_, _≤_, _<_, min, _+_, _%_, _*_, _^_}
 pub use mathlib.Core.Path.{_≡_, refl, sym, ap, _∙_, subst}
-pub use mathlib.Core.Bool.{Bool, true, false, cond, _&&_, false≢true, and-false}
+pub use mathlib.Core.Bool.{Bool, true, false, cond, not, _&&_, _||_, false≢true, true≢false, and-false}
 pub use mathlib.Core.List.{List, [], _∷_, map, _++_, map-id}
 pub use mathlib.Core.Logic.{_↔_, ⊎-elim, _⊎_}
 pub use native.Mathlib.Numerals.{add-one}
 pub use native.Mathlib.Omega.{arith}
 pub use native.Mathlib.Nat.{add-zero, zero-add, le-refl, add-suc, add-assoc}
-pub use borrow.Author.Tests.{eqb-true, eqb-false, ltb-true, ltb-false, eq-eqb, ne-eqb, lt-leb, le-leb, leb-true, leb-false, lt-ltb, le-ltb}
+pub use borrow.Author.Tests.{eqb-true, eqb-false, ltb-true, ltb-false, eq-eqb, ne-eqb, lt-leb, le-leb, leb-true, leb-false, lt-ltb, le-ltb, not-false}
 pub use borrow.Author.Needs.{needs}
 pub use lib.Dec.{eqb, ltb, leb, leb·zero}
-pub use lib.ListN.{getD, set, take, length, length-set, drop, length-append, length-replicate, replicate, length-drop}
+pub use lib.ListN.{getD, set, take, length, length-set, length-take, drop, length-append, length-replicate, replicate, length-drop}
 pub use lib.Seq.{getD-set-same, getD-set-other, getD-take, take-all, length-take-le, take-append-seam, take-at, sets-eq}
 pub use Rattle.register.specs.declared.Register.{Register}
 pub use Rattle.register.specs.Layout.{zeroRegister, wordAt, ofBytes, rowOf}
@@ -22,7 +22,7 @@ pub use Rattle.table.specs.Fields.{rs2Of, rs3Of, rdOf, isLi, rs1Of}
 unfoldable pub use Rattle.table.specs.Fields.{firstOf}
 pub use Rattle.table.specs.Operation.{readsOf, takesFirst, takesSecond, takesThird, isNop, Operation}
 unfoldable pub use Rattle.table.specs.Operation.{operationOf, targetOf}
-pub use Rattle.table.specs.Refusal.{DRAINED, STATE, ROOM}
+pub use Rattle.table.specs.Refusal.{DRAINED, STATE, ROOM, BUSY}
 unfoldable pub use Rattle.table.specs.Refusal.{firstBad}
 pub use Rattle.plain_rules.specs.Machine.{stored, step, plain, plainRows}
 unfoldable pub use Rattle.plain_rules.specs.Machine.{stepOn, plainOn}
@@ -41,13 +41,13 @@ pub use Rattle.unit_rules.specs.declared.Unit.{Unit}
 pub use Rattle.unit_rules.specs.Cycle.{instructionOf, afterWB, isTarget, newestOperands, operandsIn, afterEX, afterID, afterIF, readBy, newest}
 pub use Rattle.unit_rules.specs.Cycle.{instructionAt, given, countAfter, fetchedIn}
 unfoldable pub use Rattle.unit_rules.specs.Cycle.{cycleOf, cyclesOf}
-pub use Rattle.unit_rules.specs.Calls.{goneOf, registersSet, loadedOf, freshOf, begunOf, startedBy}
-unfoldable pub use Rattle.unit_rules.specs.Calls.{startOf, cycledOf, ranOf, registerOf, askedDrained, goesOn}
-pub use Rattle.unit_rules.specs.Sequence.{Whole, afterCalls, Call, unitAfter, cyclesIn, unitAfterAll, cyclesInAll}
+pub use Rattle.unit_rules.specs.Calls.{goneOf, registersSet, loadedOf, loadedBy, freshOf, begunOf}
+unfoldable pub use Rattle.unit_rules.specs.Calls.{loadOf, goOf, cycledOf, ranOf, registerOf, askedDrained, goesOn}
+pub use Rattle.unit_rules.specs.Sequence.{Whole, afterCalls, Call, unitAfter, cyclesIn, begins, unitAfterAll, cyclesInAll, beginsInAll}
 pub use Rattle.unit_rules.specs.declared.Cycled.{Cycled}
 pub use Rattle.unit_rules.specs.declared.Ran.{Ran}
 pub use Rattle.unit_rules.specs.Record.{lastOf, inDecoded, inExecuted, isEmpty, sameTarget, sameInstruction, sameHeld, numbersMade}
-pub use Rattle.unit_rules.specs.Record.{latchesMade}
+pub use Rattle.unit_rules.specs.Record.{latchesMade, allEmpty, programMade, restMade, runMade}
 unfoldable pub use Rattle.unit_rules.specs.Record.{drainedOf, wellMadeOf}
 pub use Rattle.unit_rules.specs.Stages.{writeTo, newestBy, executedBy, sourcesOf, readAt, decodedWith, deliveredOf, inFlightOf, unitWith}
 pub use Rattle.unit_rules.specs.Stages.{advancedOf}

@@ -1,21 +1,28 @@
--- For the reader of specs/: what the test of a record says, that a record which is not well made is refused with 10 at every call but a start, and where a
--- register's number ends.
+-- For the reader of specs/: what the test of a record says in either state, that every call leaves a well-made record and refuses with 10 one that is not, what leaves the registers
+-- as they are, and where a register's number ends.
 -- Assumes nothing.
-use Rattle.unit_rules.proofs.Shared.{ℕ, _≤_, _<_, _≡_, refl, sym, ap, subst, _∙_, _↔_, true, false, false≢true, lt-ltb, le-ltb, leb-true, le-leb, leb}
-use Rattle.unit_rules.proofs.Shared.{getD, length-replicate, Register, zeroRegister, STATE, firstBad, IfId, IdEx, ExWb, Unit, Whole}
-use Rattle.unit_rules.proofs.Shared.{inDecoded, inExecuted, isEmpty}
+use Rattle.unit_rules.proofs.Shared.{ℕ, zero, suc, _+_, _≤_, _<_, _≡_, refl, sym, ap, subst, _∙_, _↔_, Bool, true, false, cond, not, _&&_, _||_, false≢true, true≢false, List, [], _∷_}
+use Rattle.unit_rules.proofs.Shared.{arith, lt-ltb, le-ltb, leb-true, le-leb, eq-eqb, eqb-true, eqb-false, leb, eqb, getD, length-replicate, Register, zeroRegister, STATE}
+use Rattle.unit_rules.proofs.Shared.{firstBad, linesOf, IfId, IdEx, ExWb, Unit, Whole, inDecoded, inExecuted, isEmpty, allEmpty, programMade, restMade, cycleOf}
+use Rattle.unit_rules.proofs.Shared.{Cycled, Ran, drainedOf, wellMadeOf, freshOf, loadOf, goOf, cycledOf, goesOn, ranOf, registerOf, askedDrained}
+use Rattle.unit_rules.proofs.Shared.{Call, unitAfter, cyclesIn, begins, unitAfterAll}
 use Rattle.unit_rules.proofs.Shared.IF/ID
 use Rattle.unit_rules.proofs.Shared.ID/EX
 use Rattle.unit_rules.proofs.Shared.EX/WB
-use Rattle.unit_rules.proofs.Shared.{Cycled, Ran, drainedOf, wellMadeOf, freshOf, cycledOf, ranOf, registerOf, askedDrained}
 use Rattle.table.specs.Refusal.{POINTER}
 use Rattle.table.proofs.Decided.{stops, passes, ends, each, denied, not-denied}
+use Rattle.unit_rules.specs.declared.Loaded.{Loaded}
+use Rattle.unit_rules.specs.declared.Gone.{Gone}
 use Rattle.unit_rules.specs.declared.RegisterAnswer.{RegisterAnswer}
 use Rattle.unit_rules.specs.declared.Drained.{Drained}
+use Rattle.unit_rules.specs.Sequence.Call.{load, go, cycle, row, run, register, drained}
 use Rattle.table.proofs.Rows.{all-alike}
-use Rattle.unit_rules.proofs.WellMade.{WellMade, well-made-says, well-made-test, both}
+use Rattle.unit_rules.proofs.Positions.{drained-loaded}
+use Rattle.unit_rules.proofs.WellMade.{WellMade, well-made-says, well-made-test, rest-test, both, empty-held}
+use Rattle.unit_rules.proofs.Loading.{load-ill-made, load-refused, go-ill-made}
+use Rattle.unit_rules.proofs.Calls.{well-made-after}
 
--- the test holds exactly of what document 01 calls well made
+-- the test holds exactly of what the documents call well made
 pub well-made-exactly : (u : Unit) → (wellMadeOf u ≡ true) ↔ WellMade u
 well-made-exactly u = (well-made-says u, well-made-test u)
 
@@ -35,19 +42,6 @@ pub register-to-31 : (u : Unit) (i : ℕ) → wellMadeOf u ≡ true → i ≤ 31
 unfolding registerOf
 register-to-31 u i w h = sym (passes _ _ _ (not-denied w) (passes _ _ _ (le-ltb _ _ h) ends))
 
--- a latch that is empty, whatever it could hold
-empty-fetched : (x : IfId) → isEmpty x ≡ true → x ≡ IF/ID.Empty
-empty-fetched IF/ID.Empty e = refl
-empty-fetched (IF/ID.Holds i) e = absurd (false≢true e)
-
-empty-decoded : (x : IdEx) → isEmpty (inDecoded x) ≡ true → x ≡ ID/EX.Empty
-empty-decoded ID/EX.Empty e = refl
-empty-decoded (ID/EX.Holds i o) e = absurd (false≢true e)
-
-empty-executed : (x : ExWb) → isEmpty (inExecuted x) ≡ true → x ≡ EX/WB.Empty
-empty-executed EX/WB.Empty e = refl
-empty-executed (EX/WB.Holds i o) e = absurd (false≢true e)
-
 -- "n = 0, registers zero": each of the 32 that is asked for
 pub fresh-registers : (freshOf .program .n .0 ≡ 0) × Whole (freshOf .registers)
     × ((i : ℕ) → i ≤ 31 → _≡_ {A = RegisterAnswer} (registerOf freshOf i) (record { refusal = 0; register = zeroRegister }))
@@ -57,38 +51,64 @@ fresh-registers = (
   λ i h. register-to-31 freshOf i (fresh-drained .1) h ∙ ap (λ (v : Register). record { refusal = 0; register = v }) (all-alike zeroRegister 32 i),
 )
 
--- "The unit is drained when the count has reached n and all latches are empty": so it is answered, and only so
-pub drained-exactly : (u : Unit) → wellMadeOf u ≡ true
-    → (askedDrained u .refusal ≡ 0)
-    × ((askedDrained u .drained ≡ true)
-    ↔ ((u .program .n .0 ≤ u .count .0) × (u .fetched ≡ IF/ID.Empty) × (u .decoded ≡ ID/EX.Empty) × (u .executed ≡ EX/WB.Empty)))
+-- a latch that is empty, whatever it could hold
+empty-decoded : (x : IdEx) → isEmpty (inDecoded x) ≡ true → x ≡ ID/EX.Empty
+empty-decoded ID/EX.Empty e = refl
+empty-decoded (ID/EX.Holds i o) e = absurd (false≢true e)
+
+empty-executed : (x : ExWb) → isEmpty (inExecuted x) ≡ true → x ≡ EX/WB.Empty
+empty-executed EX/WB.Empty e = refl
+empty-executed (EX/WB.Holds i o) e = absurd (false≢true e)
+
+abbrev NothingHeld : Unit → Type 0
+NothingHeld u = (u .fetched ≡ IF/ID.Empty) × (u .decoded ≡ ID/EX.Empty) × (u .executed ≡ EX/WB.Empty)
+
+nothing-held : (u : Unit) → (allEmpty (u .fetched) (inDecoded (u .decoded)) (inExecuted (u .executed)) ≡ true) ↔ NothingHeld u
+nothing-held u = (
+  λ e.
+      let a = both _ (isEmpty (inExecuted (u .executed))) e in
+      let b = both (isEmpty (u .fetched)) (isEmpty (inDecoded (u .decoded))) (a .0) in
+      (empty-held (u .fetched) (b .0), empty-decoded (u .decoded) (b .1), empty-executed (u .executed) (a .1)),
+  λ h. rw (h .0, h .1, h .2),
+)
+
+-- "the state loaded and not gone, in which count and cycle are zero and the latches empty", with n and the words as in the other state
+pub well-made-loaded : (u : Unit) → u .gone ≡ false
+    → (wellMadeOf u ≡ true)
+    ↔ ((u .program .n .0 ≤ 64) × (u .program .n .0 ≤ firstBad (linesOf (u .program))) × (u .count .0 ≡ 0) × (u .cycle ≡ 0) × NothingHeld u)
+unfolding wellMadeOf
+well-made-loaded u still = (
+  λ e.
+      let w = well-made-says u e in
+      let at-0 = w .resting still in
+      let empty = both (eqb (u .count .0) 0 && eqb (u .cycle) 0) (allEmpty (u .fetched) (inDecoded (u .decoded)) (inExecuted (u .executed))) (rest-test u at-0 (w .placed)) .1 in
+      (w .few, w .good, omega (arith, w .placed .counted), at-0, nothing-held u .0 empty),
+  λ h. rw (still, le-leb _ _ (h .0), le-leb _ _ (h .1), eq-eqb _ _ (h .2), eq-eqb _ _ (h .3)) (nothing-held u .1 (h .4)),
+)
+
+-- "A loaded unit that has not gone counts as drained."
+pub drained-until-it-goes : (u : Unit) → wellMadeOf u ≡ true → u .gone ≡ false → _≡_ {A = Drained} (askedDrained u) (record { refusal = 0; drained = true })
+unfolding askedDrained
+drained-until-it-goes u w still = sym (passes _ _ _ (not-denied w) (rw (drained-loaded u still) ends))
+
+-- Once it has, it "is drained when the count has reached n and all latches are empty": so it is answered, and only so
+pub drained-exactly : (u : Unit) → wellMadeOf u ≡ true → u .gone ≡ true
+    → (askedDrained u .refusal ≡ 0) × ((askedDrained u .drained ≡ true) ↔ ((u .program .n .0 ≤ u .count .0) × NothingHeld u))
 unfolding askedDrained drainedOf
-drained-exactly u w =
+drained-exactly u w went =
     let answer : record { refusal = 0; drained = drainedOf u } ≡ askedDrained u = passes _ _ _ (not-denied w) ends in
-    subst (λ (a : Drained). (a .refusal ≡ 0) × ((a .drained ≡ true) ↔ AllDone)) answer (refl, (says, tested))
+    subst (λ (a : Drained). (a .refusal ≡ 0) × ((a .drained ≡ true) ↔ ((u .program .n .0 ≤ u .count .0) × NothingHeld u))) answer (refl, (says, tested))
   where
-    AllDone : Type 0
-    AllDone = (u .program .n .0 ≤ u .count .0) × (u .fetched ≡ IF/ID.Empty) × (u .decoded ≡ ID/EX.Empty) × (u .executed ≡ EX/WB.Empty)
+    Tested : Bool → Type 0
+    Tested t = (not t || leb (u .program .n .0) (u .count .0) && allEmpty (u .fetched) (inDecoded (u .decoded)) (inExecuted (u .executed))) ≡ true
 
-    says : drainedOf u ≡ true → AllDone
+    says : drainedOf u ≡ true → (u .program .n .0 ≤ u .count .0) × NothingHeld u
     says e =
-        let a = both _ (isEmpty (inExecuted (u .executed))) e in
-        let b = both _ (isEmpty (inDecoded (u .decoded))) (a .0) in
-        let c = both (leb (u .program .n .0) (u .count .0)) (isEmpty (u .fetched)) (b .0) in
-        (leb-true _ _ (c .0), empty-fetched (u .fetched) (c .1), empty-decoded (u .decoded) (b .1), empty-executed (u .executed) (a .1))
+        let a = both (leb (u .program .n .0) (u .count .0)) (allEmpty (u .fetched) (inDecoded (u .decoded)) (inExecuted (u .executed))) (subst Tested went e) in
+        (leb-true _ _ (a .0), nothing-held u .0 (a .1))
 
-    tested : AllDone → drainedOf u ≡ true
-    tested d = rw (le-leb _ _ (d .0), d .1, d .2, d .3)
-
--- "Every call on a unit but a start tests 10 first"; the unit comes back as it was given
-pub ill-made-refused : (u : Unit) → wellMadeOf u ≡ false
-    → (_≡_ {A = Cycled} (cycledOf u) (record { refusal = STATE; unit = u }))
-    × ((k : ℕ) → _≡_ {A = Ran} (ranOf u k) (record { refusal = STATE; made = 0; unit = u }))
-    × ((i : ℕ) → _≡_ {A = RegisterAnswer} (registerOf u i) (record { refusal = STATE; register = zeroRegister }))
-    × (_≡_ {A = Drained} (askedDrained u) (record { refusal = STATE; drained = false }))
-unfolding cycledOf ranOf registerOf askedDrained
-ill-made-refused u h =
-    let refused = denied h in (sym (stops _ _ refused), λ k. sym (stops _ _ refused), λ i. sym (stops _ _ refused), sym (stops _ _ refused))
+    tested : (u .program .n .0 ≤ u .count .0) × NothingHeld u → drainedOf u ≡ true
+    tested d = rw (went, le-leb _ _ (d .0)) (nothing-held u .1 (d .1))
 
 -- "unit, register file and buffers stay unaltered: a unit .. passed by value comes back as it was given"
 pub cycle-refused : (u : Unit) → (cycledOf u .refusal ≡ 0 → ⊥) → cycledOf u .unit ≡ u
@@ -98,9 +118,81 @@ cycle-refused u = each Kept _ _ (λ h. refl, (λ h. refl, tt)) (λ h. absurd (h 
     Kept : Cycled → Type 0
     Kept a = (a .refusal ≡ 0 → ⊥) → a .unit ≡ u
 
+pub go-refused : (u : Unit) → (goOf u .refusal ≡ 0 → ⊥) → goOf u .unit ≡ u
+unfolding goOf
+go-refused u = each Kept _ _ (λ h. refl, tt) (λ h. absurd (h refl))
+  where
+    Kept : Gone → Type 0
+    Kept a = (a .refusal ≡ 0 → ⊥) → a .unit ≡ u
+
 pub run-refused : (u : Unit) (k : ℕ) → (ranOf u k .refusal ≡ 0 → ⊥) → ranOf u k .unit ≡ u
 unfolding ranOf
 run-refused u k = each Kept _ _ (λ h. refl, tt) (λ h. absurd (h refl))
   where
     Kept : Ran → Type 0
     Kept a = (a .refusal ≡ 0 → ⊥) → a .unit ≡ u
+
+-- a cycle that is not made, and a run of none, leave the unit
+cycle-keeps : (u : Unit) → cyclesIn cycle u ≡ 0 → cycledOf u .unit ≡ u
+cycle-keeps u m = cycle-refused u (λ e. absurd (one-not-none (sym (ap (λ (t : Bool). cond {A = ℕ} t 1 0) (eq-eqb (cycledOf u .refusal) 0 e)) ∙ m)))
+  where
+    one-not-none : _≡_ {A = ℕ} 1 0 → ⊥
+    one-not-none e = omega arith
+
+none-gone : (k : ℕ) (u : Unit) → goesOn k u .0 ≡ 0 → goesOn k u .1 ≡ u
+unfolding goesOn
+none-gone zero u m = refl
+none-gone (suc k) u m = case (drainedOf u) m
+  where
+    case : (t : Bool) → cond {A = ℕ × Unit} t (0, u) (goesOn k (cycleOf u) .0 + 1, goesOn k (cycleOf u) .1) .0 ≡ 0
+        → cond {A = ℕ × Unit} t (0, u) (goesOn k (cycleOf u) .0 + 1, goesOn k (cycleOf u) .1) .1 ≡ u
+    case true m = refl
+    case false m = absurd (omega arith)
+
+run-keeps : (u : Unit) (k : ℕ) → ranOf u k .made ≡ 0 → ranOf u k .unit ≡ u
+unfolding ranOf
+run-keeps u k = each Kept _ _ (λ h. refl, tt) (none-gone k u)
+  where
+    Kept : Ran → Type 0
+    Kept a = a .made ≡ 0 → a .unit ≡ u
+
+-- every call leaves a well-made unit well made, and so are all units that calls make of a fresh one
+pub kept-well-made : (x : Call) (u : Unit) → wellMadeOf u ≡ true → wellMadeOf (unitAfter x u) ≡ true
+kept-well-made x u w = well-made-after u w x
+
+pub reached-well-made : (calls : List Call) → wellMadeOf (unitAfterAll calls freshOf) ≡ true
+reached-well-made calls = onwards calls freshOf (fresh-drained .1)
+  where
+    onwards : (calls : List Call) (u : Unit) → wellMadeOf u ≡ true → wellMadeOf (unitAfterAll calls u) ≡ true
+    onwards [] u w = w
+    onwards (x ∷ calls) u w = onwards calls (unitAfter x u) (kept-well-made x u w)
+
+-- "Only an accepted load or a cycle alters the registers": a go leaves them, and the program, and any other call in which no cycle is made leaves the whole unit
+pub go-keeps : (u : Unit) → (goOf u .unit .registers ≡ u .registers) × (goOf u .unit .program ≡ u .program)
+unfolding goOf
+go-keeps u = each Kept _ _ ((refl, refl), tt) (refl, refl)
+  where
+    Kept : Gone → Type 0
+    Kept a = (a .unit .registers ≡ u .registers) × (a .unit .program ≡ u .program)
+
+pub others-keep : (x : Call) (u : Unit) → begins x u ≡ false → cyclesIn x u ≡ 0 → unitAfter x u ≡ u
+others-keep (load file) u none m = load-refused file u (eqb-false (loadOf file u .refusal) 0 none)
+others-keep go u none m = absurd (true≢false none)
+others-keep cycle u none m = cycle-keeps u m
+others-keep (row true) u none m = cycle-keeps u m
+others-keep (row false) u none m = refl
+others-keep (run k) u none m = run-keeps u k m
+others-keep (register i) u none m = refl
+others-keep drained u none m = refl
+
+-- Every call on a unit "tests 10 first"; the unit comes back as it was given
+pub ill-made-refused : (u : Unit) → wellMadeOf u ≡ false
+    → ((file : List ℕ) → _≡_ {A = Loaded} (loadOf file u) (record { refusal = STATE; place = 0; unit = u }))
+    × (_≡_ {A = Gone} (goOf u) (record { refusal = STATE; unit = u }))
+    × (_≡_ {A = Cycled} (cycledOf u) (record { refusal = STATE; unit = u }))
+    × ((k : ℕ) → _≡_ {A = Ran} (ranOf u k) (record { refusal = STATE; made = 0; unit = u }))
+    × ((i : ℕ) → _≡_ {A = RegisterAnswer} (registerOf u i) (record { refusal = STATE; register = zeroRegister }))
+    × (_≡_ {A = Drained} (askedDrained u) (record { refusal = STATE; drained = false }))
+unfolding cycledOf ranOf registerOf askedDrained
+ill-made-refused u h =
+    let refused = denied h in (λ file. load-ill-made file u h, go-ill-made u h, sym (stops _ _ refused), λ k. sym (stops _ _ refused), λ i. sym (stops _ _ refused), sym (stops _ _ refused))

@@ -1,14 +1,14 @@
 -- What each call on a unit answers, for every unit whatsoever.
 -- Assumes nothing.
 use Prim.Native.Nat.{ℕ, zero, suc, _+_}
-use mathlib.Core.Bool.{false, cond, not}
+use mathlib.Core.Bool.{Bool, true, false, cond, not}
 use mathlib.Core.List.{List, [], _∷_}
 use lib.Dec.{eqb, ltb}
 use lib.ListN.{getD, set, replicate}
 use Rattle.register.specs.declared.Register.{Register}
 use Rattle.register.specs.Layout.{zeroRegister}
 use Rattle.table.specs.Decided.{decided}
-use Rattle.table.specs.Refusal.{POINTER, DRAINED, STATE}
+use Rattle.table.specs.Refusal.{POINTER, DRAINED, STATE, BUSY}
 use Rattle.job_rules.specs.declared.Job.{Job}
 use Rattle.job_rules.specs.declared.Program.{Program}
 use Rattle.job_rules.specs.declared.ReadJob.{ReadJob}
@@ -18,7 +18,8 @@ use Rattle.unit_rules.specs.declared.IfId.the-variants as IF/ID
 use Rattle.unit_rules.specs.declared.IdEx.the-variants as ID/EX
 use Rattle.unit_rules.specs.declared.ExWb.the-variants as EX/WB
 use Rattle.unit_rules.specs.declared.Unit.{Unit}
-use Rattle.unit_rules.specs.declared.Started.{Started}
+use Rattle.unit_rules.specs.declared.Loaded.{Loaded}
+use Rattle.unit_rules.specs.declared.Gone.{Gone}
 use Rattle.unit_rules.specs.declared.Cycled.{Cycled}
 use Rattle.unit_rules.specs.declared.Ran.{Ran}
 use Rattle.unit_rules.specs.declared.RegisterAnswer.{RegisterAnswer}
@@ -26,11 +27,9 @@ use Rattle.unit_rules.specs.declared.Drained.{Drained}
 use Rattle.unit_rules.specs.Cycle.{cycleOf}
 use Rattle.unit_rules.specs.Record.{drainedOf, wellMadeOf}
 
--- ---- a start
-
--- a unit before its first cycle, on a program and some registers
-abbrev pub begunOf : Program → List Register → Unit
-begunOf program registers = record {
+-- a unit before the first cycle of a program on some registers, gone or not: the latches empty, count and cycle number zero
+abbrev pub begunOf : Bool → Program → List Register → Unit
+begunOf gone program registers = record {
   program = program;
   count = record { 0 = 0 };
   cycle = 0;
@@ -38,45 +37,52 @@ begunOf program registers = record {
   fetched = IF/ID.Empty;
   decoded = ID/EX.Empty;
   executed = EX/WB.Empty;
+  gone = gone;
 }
 
--- "A fresh unit has n = 0, registers zero, and is drained."
+-- "A fresh unit has n = 0, registers zero, and is drained.": it is loaded and has not gone
 abbrev pub freshOf : Unit
-freshOf = begunOf (record { words = replicate 64 0; n = record { 0 = 0 } }) (replicate 32 zeroRegister)
+freshOf = begunOf false (record { words = replicate 64 0; n = record { 0 = 0 } }) (replicate 32 zeroRegister)
 
--- "A start sets registers 0 .. r-1 from the file; the others keep what they held."
+-- ---- load
+
+-- "sets registers 0 .. r-1 from the file; the others keep what they held"
 abbrev pub registersSet : ℕ → List Register → List Register → List Register
 registersSet zero file f = f
 registersSet (suc i) file f = set (registersSet i file f) i (getD file i zeroRegister)
 
--- a load sets program and registers
+-- "load checks the file, sets program and registers and puts count and cycle to zero"
 abbrev pub loadedOf : Job → Unit → Unit
-loadedOf job u = record {
-  program = job .program;
-  count = u .count;
-  cycle = u .cycle;
-  registers = registersSet (job .r) (job .registers) (u .registers);
-  fetched = u .fetched;
-  decoded = u .decoded;
-  executed = u .executed;
-}
+loadedOf job u = begunOf false (job .program) (registersSet (job .r) (job .registers) (u .registers))
 
--- "A start empties the latches and puts count and cycle number to zero; what a broken-off job had not yet written is lost.": a go
+-- by what reading the file answers; refused, the unit "comes back as it was given"
+abbrev pub loadedBy : ReadJob → Unit → Loaded
+loadedBy read u = record { refusal = read .refusal; place = read .place; unit = cond (eqb (read .refusal) 0) (loadedOf (read .job) u) u }
+
+-- "load gives 10, then 18 (busy) when the unit isn't drained, then 1 onwards"
+unfoldable pub loadOf : List ℕ → Unit → Loaded
+loadOf file u =
+    decided
+    ((not (wellMadeOf u), record { refusal = STATE; place = 0; unit = u })
+    ∷ (not (drainedOf u), record { refusal = BUSY; place = 0; unit = u })
+    ∷ [])
+    (loadedBy (readOf instructionsAt file) u)
+
+-- ---- go
+
+-- "go empties the latches and sets count and cycle to zero"
 abbrev pub goneOf : Unit → Unit
-goneOf u = begunOf (u .program) (u .registers)
+goneOf u = begunOf true (u .program) (u .registers)
 
--- a start is a go after a load; it "tests 1 to 6", as reading does; refused, the unit "comes back as it was given"
-abbrev pub startedBy : ReadJob → Unit → Started
-startedBy read u = record {
-  refusal = read .refusal;
-  place = read .place;
-  unit = cond (eqb (read .refusal) 0) (goneOf (loadedOf (read .job) u)) u;
-}
+-- "go gives 10"
+unfoldable pub goOf : Unit → Gone
+goOf u =
+    decided
+    ((not (wellMadeOf u), record { refusal = STATE; unit = u })
+    ∷ [])
+    (record { refusal = 0; unit = goneOf u })
 
-unfoldable pub startOf : List ℕ → Unit → Started
-startOf file u = startedBy (readOf instructionsAt file) u
-
--- ---- the other calls: "Every call on a unit but a start tests 10 first"
+-- ---- the other calls: each "tests 10 first"
 
 -- "then a cycle tests 8"
 unfoldable pub cycledOf : Unit → Cycled

@@ -100,9 +100,10 @@ cycleOf u = record {
   fetched = afterIF (u .program) (u .count .0);
   decoded = afterID (u .fetched) (afterWB (u .executed) (u .registers));
   executed = afterEX (u .executed) (u .decoded);
+  gone = u .gone;
 }
 
--- what IF delivers in cycle c since a start: "in cycle c, counted from 1 at the start," instruction c-1 "(from 0), or nothing outside 0 .. n-1"
+-- what IF delivers in cycle c since a go: "in cycle c, counted from 1 at the start," instruction c-1 "(from 0), or nothing outside 0 .. n-1"
 abbrev pub fetchedIn : Program → ℕ → IfId
 fetchedIn program zero = IF/ID.Empty
 fetchedIn program (suc k) = afterIF program k

@@ -1,7 +1,7 @@
 -- When a unit is drained, and when its record is well made.
 -- Assumes nothing.
 use Prim.Native.Nat.{ℕ, _+_, _-_, min}
-use mathlib.Core.Bool.{Bool, true, false, cond, _&&_}
+use mathlib.Core.Bool.{Bool, true, false, cond, not, _&&_, _||_}
 use lib.Dec.{eqb, leb}
 use Rattle.table.specs.declared.Target.{Target}
 use Rattle.table.specs.declared.Target.the-variants.{None, To}
@@ -31,11 +31,14 @@ abbrev pub isEmpty : IfId → Bool
 isEmpty IF/ID.Empty = true
 isEmpty (IF/ID.Holds i) = false
 
--- "The unit is drained when the count has reached n and all latches are empty."
+-- "all latches are empty"
+abbrev pub allEmpty : IfId → IfId → IfId → Bool
+allEmpty fetched decoded executed = isEmpty fetched && isEmpty decoded && isEmpty executed
+
+-- "A loaded unit that has not gone counts as drained." Once it has, it is "when the count has reached n and all latches are empty".
 unfoldable pub drainedOf : Unit → Bool
 drainedOf u =
-    leb (u .program .n .0) (u .count .0)
-    && isEmpty (u .fetched) && isEmpty (inDecoded (u .decoded)) && isEmpty (inExecuted (u .executed))
+    not (u .gone) || leb (u .program .n .0) (u .count .0) && allEmpty (u .fetched) (inDecoded (u .decoded)) (inExecuted (u .executed))
 
 -- "n+3 (0 when n is 0)"
 abbrev pub lastOf : ℕ → ℕ
@@ -60,17 +63,30 @@ sameHeld IF/ID.Empty (IF/ID.Holds j) = false
 sameHeld (IF/ID.Holds i) IF/ID.Empty = false
 sameHeld (IF/ID.Holds i) (IF/ID.Holds j) = sameInstruction i j
 
--- "n is at most 64, its n words are below 2^25, the cycle number c is at most n+3 (0 when n is 0), the count is the smaller of c and n"
-abbrev pub numbersMade : Program → ℕ → ℕ → Bool
-numbersMade program count c =
-    leb (program .n .0) 64 && leb (program .n .0) (firstBad (linesOf program)) && leb c (lastOf (program .n .0)) && eqb count (min c (program .n .0))
+-- "n is at most 64, its n words are below 2^25"
+abbrev pub programMade : Program → Bool
+programMade program = leb (program .n .0) 64 && leb (program .n .0) (firstBad (linesOf program))
+
+-- "the cycle number c is at most n+3 (0 when n is 0), the count is the smaller of c and n"
+abbrev pub numbersMade : ℕ → ℕ → ℕ → Bool
+numbersMade n count c = leb c (lastOf n) && eqb count (min c n)
 
 -- "and the latches hold instructions c-1, c-2 and c-3, or nothing outside 0 .. n-1": what was fetched in cycles c, c-1 and c-2; in cycle 0 nothing was
 abbrev pub latchesMade : Program → ℕ → IfId → IfId → IfId → Bool
 latchesMade program c fetched decoded executed =
     sameHeld fetched (fetchedIn program c) && sameHeld decoded (fetchedIn program (c - 1)) && sameHeld executed (fetchedIn program (c - 2))
 
+-- "the state loaded and not gone, in which count and cycle are zero and the latches empty"
+abbrev pub restMade : ℕ → ℕ → IfId → IfId → IfId → Bool
+restMade count c fetched decoded executed = eqb count 0 && eqb c 0 && allEmpty fetched decoded executed
+
+-- a unit that has gone, by its program, count, cycle number and latches
+abbrev pub runMade : Program → ℕ → ℕ → IfId → IfId → IfId → Bool
+runMade program count c fetched decoded executed = numbersMade (program .n .0) count c && latchesMade program c fetched decoded executed
+
 unfoldable pub wellMadeOf : Unit → Bool
 wellMadeOf u =
-    numbersMade (u .program) (u .count .0) (u .cycle)
-    && latchesMade (u .program) (u .cycle) (u .fetched) (inDecoded (u .decoded)) (inExecuted (u .executed))
+    programMade (u .program)
+    && cond (u .gone)
+    (runMade (u .program) (u .count .0) (u .cycle) (u .fetched) (inDecoded (u .decoded)) (inExecuted (u .executed)))
+    (restMade (u .count .0) (u .cycle) (u .fetched) (inDecoded (u .decoded)) (inExecuted (u .executed)))

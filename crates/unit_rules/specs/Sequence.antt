@@ -2,15 +2,13 @@
 -- Assumes nothing.
 use Prim.Native.Nat.{ℕ, zero, suc, _+_}
 use mathlib.Core.Path.{_≡_}
-use mathlib.Core.Bool.{cond}
+use mathlib.Core.Bool.{Bool, true, false, cond, _||_}
 use mathlib.Core.List.{List, [], _∷_}
 use lib.Dec.{eqb}
 use lib.ListN.{length}
 use Rattle.register.specs.declared.Register.{Register}
-use Rattle.job_rules.specs.Layout.{instructionsAt}
-use Rattle.job_rules.specs.Read.{readOf}
 use Rattle.unit_rules.specs.declared.Unit.{Unit}
-use Rattle.unit_rules.specs.Calls.{startOf, cycledOf, ranOf}
+use Rattle.unit_rules.specs.Calls.{loadOf, goOf, cycledOf, ranOf}
 
 -- a file of 32 registers, as `[Register; 32]` is
 abbrev pub Whole : List Register → Type 0
@@ -21,30 +19,47 @@ abbrev pub afterCalls : ℕ → Unit → Unit
 afterCalls zero u = u
 afterCalls (suc c) u = cycledOf (afterCalls c u) .unit
 
--- a call that is no accepted start
+-- a call on a unit: of a load its file, of a cycle with a row whether the buffer has room for it
 pub data Call : Type 0 where
+  load : List ℕ → Call
+  go : Call
   cycle : Call
+  row : Bool → Call
   run : ℕ → Call
   register : ℕ → Call
   drained : Call
-  refusedStart : (file : List ℕ) → (readOf instructionsAt file .refusal ≡ 0 → ⊥) → Call
 
--- the unit after a call, and the cycles made in it: a register call and the question whether it is drained hand no unit back
+-- the unit after a call: without room a cycle with a row is refused; a register call and the question whether it is drained hand no unit back
 abbrev pub unitAfter : Call → Unit → Unit
+unitAfter (load file) u = loadOf file u .unit
+unitAfter go u = goOf u .unit
 unitAfter cycle u = cycledOf u .unit
+unitAfter (row room) u = cond room (cycledOf u .unit) u
 unitAfter (run k) u = ranOf u k .unit
 unitAfter (register i) u = u
 unitAfter drained u = u
-unitAfter (refusedStart file h) u = startOf file u .unit
 
+-- the cycles made in a call
 abbrev pub cyclesIn : Call → Unit → ℕ
+cyclesIn (load file) u = 0
+cyclesIn go u = 0
 cyclesIn cycle u = cond (eqb (cycledOf u .refusal) 0) 1 0
+cyclesIn (row room) u = cond room (cond (eqb (cycledOf u .refusal) 0) 1 0) 0
 cyclesIn (run k) u = ranOf u k .made
 cyclesIn (register i) u = 0
 cyclesIn drained u = 0
-cyclesIn (refusedStart file h) u = 0
 
--- the same of calls one after another
+-- whether a call is a go or an accepted load
+abbrev pub begins : Call → Unit → Bool
+begins (load file) u = eqb (loadOf file u .refusal) 0
+begins go u = true
+begins cycle u = false
+begins (row room) u = false
+begins (run k) u = false
+begins (register i) u = false
+begins drained u = false
+
+-- the same of calls one after another: the unit after them, the cycles made in them, and whether there is a go or an accepted load among them
 abbrev pub unitAfterAll : List Call → Unit → Unit
 unitAfterAll [] u = u
 unitAfterAll (x ∷ calls) u = unitAfterAll calls (unitAfter x u)
@@ -52,3 +67,7 @@ unitAfterAll (x ∷ calls) u = unitAfterAll calls (unitAfter x u)
 abbrev pub cyclesInAll : List Call → Unit → ℕ
 cyclesInAll [] u = 0
 cyclesInAll (x ∷ calls) u = cyclesIn x u + cyclesInAll calls (unitAfter x u)
+
+abbrev pub beginsInAll : List Call → Unit → Bool
+beginsInAll [] u = false
+beginsInAll (x ∷ calls) u = begins x u || beginsInAll calls (unitAfter x u)

@@ -88,6 +88,7 @@ unitWith u c f l = record {
   fetched = l .fetched;
   decoded = l .decoded;
   executed = l .executed;
+  gone = u .gone;
 }
 
 -- all of a cycle but its write: EX, ID and IF, with what WB writes, what ID reads and the word at the count

@@ -1,4 +1,4 @@
-// The unit's record and what its calls answer. What a cycle, a start and the other calls make of it is defined in `specs/`; demand 3 is in
+// The unit's record and what its calls answer. What a load, a go, a cycle and the other calls make of it is defined in `specs/`; demand 3 is in
 // `proofs/Demand3.antt`. There is no code.
 
 use alu_rules::Outcome;
@@ -48,7 +48,7 @@ pub enum ExWb {
     Holds(Instruction, Outcome),
 }
 
-// The unit: its program, the count of lines fetched, the cycles since the start, the registers and the latches.
+// The unit: its program, the count of lines fetched, the cycles since the go, the registers, the latches, and whether it has gone since it was loaded.
 pub struct Unit {
     pub program: Program,
     pub count: Count,
@@ -57,6 +57,7 @@ pub struct Unit {
     pub fetched: IfId,
     pub decoded: IdEx,
     pub executed: ExWb,
+    pub gone: bool,
 }
 
 // What is in flight between two cycles: the count and the latches, all of the unit that a cycle changes but its number and the registers.
@@ -81,10 +82,16 @@ pub struct Sources {
     pub third: Pointer,
 }
 
-// What a start answers: 0, or the number that the file is refused with, with 6 the place of the first bad word; and the unit.
-pub struct Started {
+// What a load answers: 0, 10, 18, or the number that the file is refused with, with 6 the place of the first bad word; and the unit.
+pub struct Loaded {
     pub refusal: u32,
     pub place: usize,
+    pub unit: Unit,
+}
+
+// What a go answers: 0 or 10; and the unit.
+pub struct Gone {
+    pub refusal: u32,
     pub unit: Unit,
 }
 

@@ -6,10 +6,10 @@ use borrow.Author.Needs.{needs}
 use Rattle.bench.proofs.print.altered as this
 
 abbrev Inv-loop : this.Tie.InvT-loop
-Inv-loop buffer fill count₀ first₀ last₀ i₀ count first last i = (i ≤ 800) × (count ≤ i)
+Inv-loop buffer count₀ first₀ last₀ i₀ count first last i = (i ≤ 800) × (count ≤ i)
 
 abbrev μ-loop : this.Tie.MeasureT-loop
-μ-loop buffer fill count₀ first₀ last₀ i₀ count first last i = 800 - i
+μ-loop buffer count₀ first₀ last₀ i₀ count first last i = 800 - i
 
 loop-again : this.Tie.Need-loop-again Inv-loop μ-loop
 loop-again c = ⊎-elim (λ w. omega arith) (λ w. omega arith) (c .if1 .came)

@@ -12,4 +12,4 @@ abbrev μ-loop : this.Tie.MeasureT-loop
 pub front-spec : {M : Type 1} → this.Statement.statement M
 front-spec =
     this.Tie.close
-    (this.Tie.spec Inv-loop μ-loop (λ c. search needs) (λ c. search needs) _ (λ c. search needs) (λ c. search needs) (λ c. search needs) _ _)
+    (this.Tie.spec Inv-loop μ-loop (λ c. search needs) (λ c. search needs) _ (λ c. search needs) (λ c. search needs) (λ c. search needs) _)

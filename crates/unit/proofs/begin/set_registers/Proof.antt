@@ -1,6 +1,6 @@
 -- Carried by `next-set` and `all-set`. The invariant: the registers before i are set.
 use Rattle.unit_rules.proofs.Shared.{_-_, _≤_, _≡_, refl, arith, needs, registersSet}
-use Rattle.unit.proofs.Starting.{next-set, all-set}
+use Rattle.unit.proofs.Loading.{next-set, all-set}
 use Rattle.unit.proofs.begin.set_registers as this
 
 abbrev Inv-loop : this.Tie.InvT-loop

@@ -15,7 +15,7 @@ by-lines-requires-2 c κs =
     let whole : Whole (u .registers) = search (whole-field, begun .good .0 .1 .1 .1 .1 .1 .0) in
     let more = c .before .if2 .left in (
       settled-then u (begun .pre .0) _ (begun .pre .1) more (c .one-by-one2 .ensures) whole,
-      made-then u (begun .pre .0) _ (begun .pre .1) more (c .one-by-one2 .ensures),
+      made-then u (begun .pre .0) _ (begun .pre .1) more (c .one-by-one2 .ensures) (search needs),
       fits-then u (begun .pre .0) _ (begun .pre .1) more (c .one-by-one2 .ensures),
     )
 

@@ -1,0 +1,27 @@
+// The calls that ask the unit and leave it as it is: each prints its answer.
+
+use crate::answers;
+use script::decimal;
+use unit_rules::Unit;
+
+pub(crate) fn register(u: Unit, words: &[u8]) {
+    let number = decimal(words);
+    if !number.known {
+        answers::unknown();
+        return;
+    }
+    let held = unit::register_of(u, number.value as usize);
+    answers::value(held.refusal, held.register);
+}
+
+pub(crate) fn registers(u: Unit) {
+    let registers = u.registers;
+    answers::refusal(0);
+    answers::list_registers(registers);
+}
+
+pub(crate) fn drained(u: Unit) {
+    let asked = unit::drained(u);
+    let yes = asked.drained as u64;
+    answers::number(asked.refusal, yes);
+}

@@ -1,0 +1,5 @@
+pub mod Bytes
+pub mod Numerals
+pub mod Boundaries
+pub mod Theorems
+pub mod Unique
