@@ -1,9 +1,12 @@
-// What no script of calls on a unit can say: room for rows, the writer's buffers, records that no call leaves, plain execution, and lanes that are run and not proved.
+// What no script of calls on a unit can say: room for rows, what the reader of job files answers, the writer's buffers, records that no call leaves, plain execution, and lanes that
+// are run and not proved.
 // Each line of standard input is a case and is repeated with ` = ` and its answer; a line that is no case has UNKNOWN for an answer. Numbers are decimal, words and
 // registers in hex digits; where a word or a register is missing or `-`, it is zero, or the latch empty. The cases, and what they answer:
 //
 //     row ROOM START                   refusal; how many bytes of the buffer were altered, the first of them and the last
 //     cycle-row ROOM START             the same of a cycle with its row, of a unit that has one line and has gone; then the unit
+//     read LINES REGISTERS FIRST SECOND SIZE
+//                                      of a file of that size with such a header and zeros behind it: refusal, place, lines, registers
 //     write LINES BYTES ROOM WORD ..   refusal, place, size; the bytes altered, as above; the first eight bytes
 //     plain LINES R1 WORD ..           refusal, place, registers 1 and 4
 //     lone WORD R1 R2 R3               the same
@@ -18,6 +21,7 @@ ghost use lib.ListN.{length};
 mod case;
 mod machine;
 mod print;
+mod reads;
 mod rows;
 mod units;
 mod writes;
@@ -35,6 +39,8 @@ fn answers(line: &[u8]) -> bool {
         rows::answer(line);
     } else if fits(line, b"cycle-row N S") {
         units::answer_cycle(line);
+    } else if fits(line, b"read N N N N N") {
+        reads::answer(line);
     } else if fits(line, b"write N N N W W W W") {
         writes::answer(line);
     } else if fits(line, b"plain N R W W W W") {

@@ -20,6 +20,8 @@ use unit_rules::IfId;
 use unit_rules::Operands;
 use unit_rules::Unit;
 
+const LARGEST_NUMBER: usize = 0xFFFF_FFFF_FFFF_FFFF;
+
 // A job without lines and registers, which a load of a drained unit accepts.
 const NO_LINES: [u8; 8] = [0, 0, 0, 0, 8, 0, 8, 0];
 
@@ -153,5 +155,6 @@ pub(crate) fn answer_record(line: &[u8]) {
     print_run(u);
     print_register(u, 31);
     print_register(u, 32);
+    print_register(u, LARGEST_NUMBER);
     print_drained(u);
 }

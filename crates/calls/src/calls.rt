@@ -1,4 +1,4 @@
-// Which call a line is. A call without words is its whole line; of another the name comes first, and what stands behind it and one space is its own to read. A new call is a
+// Which call a line is. A call without words is its whole line; of another the name comes first, and the rest, behind one space, is its own to read. A new call is a
 // function in `make` or `ask`, and a test here.
 
 ghost use Prim.Native.Nat.{_≤_};
@@ -10,7 +10,7 @@ use script::same;
 use script::word_end;
 use unit_rules::Unit;
 
-// Where the words behind a name begin that ends there: behind a space, or at the line's end.
+// Where the rest of a line begins, behind a name that ends at `end` and one space; at the line's end where there is none.
 fn behind(line: &[u8], end: usize) -> usize
     ensures { λ r. ⌜ r ≤ length (now (line .entry)) ⌝ }
 {
@@ -20,8 +20,8 @@ fn behind(line: &[u8], end: usize) -> usize
     line.len()
 }
 
-// The calls that only ask.
-fn asked(u: Unit, line: &[u8], name: &[u8], words: &[u8]) {
+// Picks a call that only asks.
+fn ask_by(u: Unit, line: &[u8], name: &[u8], rest: &[u8]) {
     if same(line, b"registers") {
         return ask::registers(u);
     }
@@ -29,13 +29,13 @@ fn asked(u: Unit, line: &[u8], name: &[u8], words: &[u8]) {
         return ask::drained(u);
     }
     if same(name, b"register") {
-        return ask::register(u, words);
+        return ask::register(u, rest);
     }
     answers::unknown();
 }
 
-// The calls that make something of the unit.
-fn made(u: Unit, line: &[u8], name: &[u8], words: &[u8]) -> Unit {
+// Picks a call that hands a unit back, or else one that asks.
+fn make_by(u: Unit, line: &[u8], name: &[u8], rest: &[u8]) -> Unit {
     if same(line, b"unit") {
         return make::fresh();
     }
@@ -49,12 +49,12 @@ fn made(u: Unit, line: &[u8], name: &[u8], words: &[u8]) -> Unit {
         return make::row(u);
     }
     if same(name, b"run") {
-        return make::run(u, words);
+        return make::run(u, rest);
     }
     if same(name, b"load") {
-        return make::load(u, words);
+        return make::load(u, rest);
     }
-    asked(u, line, name, words);
+    ask_by(u, line, name, rest);
     u
 }
 
@@ -62,5 +62,5 @@ fn made(u: Unit, line: &[u8], name: &[u8], words: &[u8]) -> Unit {
 pub(crate) fn answered(u: Unit, line: &[u8]) -> Unit {
     let end = word_end(line, 0);
     let next = behind(line, end);
-    made(u, line, &line[..end], &line[next..])
+    make_by(u, line, &line[..end], &line[next..])
 }

@@ -12,7 +12,8 @@ use libc::STDIN_FILENO;
 use script::line_end;
 use unit_rules::Unit;
 
-// What is kept of a line: one byte more than `load ` and the longest path have, which is a byte shorter than its room. A line that fills it is no call, whatever follows.
+// What is kept of a line: one byte more than `load ` and the longest path have, since PATH_MAX counts the zero byte behind a path. A line that fills it is no call, whatever
+// follows.
 const ROOM: usize = PATH_MAX + 5;
 
 // The unit, and how many bytes are kept of the line that has not ended yet.
@@ -54,12 +55,12 @@ fn end_in(piece: &[u8], at: usize) -> usize
 }
 
 // All lines that end in the piece.
-fn take_piece(start: Progress, line: &mut [u8], piece: &[u8]) -> Progress
-    requires { ⌜ start .kept ≤ length (now line) ⌝ }
+fn take_piece(before: Progress, line: &mut [u8], piece: &[u8]) -> Progress
+    requires { ⌜ before .kept ≤ length (now line) ⌝ }
     ensures { λ r. ⌜ r .kept ≤ length (now (line .exit)) ⌝ }
 {
-    let mut u = start.unit;
-    let mut kept = start.kept;
+    let mut u = before.unit;
+    let mut kept = before.kept;
     let mut at = 0;
     while at < piece.len() {
         let end = end_in(piece, at);

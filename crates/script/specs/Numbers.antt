@@ -22,8 +22,8 @@ allDigits base [] = true
 allDigits base (b ∷ l) = ltb (digitOf b) base && allDigits base l
 
 -- one or more digits, zeros in front or not
-abbrev pub isNumeral : ℕ → List ℕ → Bool
-isNumeral base l = ltb 0 (length l) && allDigits base l
+abbrev pub isNumber : ℕ → List ℕ → Bool
+isNumber base l = ltb 0 (length l) && allDigits base l
 
 -- the number that digits say
 abbrev pub numberOf : ℕ → List ℕ → ℕ
@@ -33,6 +33,6 @@ numberOf base l = positional base 0 (map digitOf l)
 abbrev pub unknown : Number
 unknown = record { known = false; value = 0 }
 
--- what one or more digits say, where that is below 2^32
+-- what one or more digits say, where that is below 2^32; and what is no number otherwise
 unfoldable pub saidIn : ℕ → List ℕ → Number
-saidIn base l = cond (isNumeral base l && ltb (numberOf base l) (2 ^ 32)) (record { known = true; value = numberOf base l }) unknown
+saidIn base l = cond (isNumber base l && ltb (numberOf base l) (2 ^ 32)) (record { known = true; value = numberOf base l }) unknown

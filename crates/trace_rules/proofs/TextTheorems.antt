@@ -19,8 +19,8 @@ pub refused-as-read : (file : List ℕ) → loadOf file freshOf ≡ loadedBy (re
 refused-as-read file = load-reads file freshOf (fresh-drained .1) (fresh-drained .0)
 
 -- the unit that is traced
-abbrev pub goneWith : List ℕ → Unit
-goneWith file = goOf (loadOf file freshOf .unit) .unit
+abbrev pub traced : List ℕ → Unit
+traced file = goOf (loadOf file freshOf .unit) .unit
 
 -- "or only a line of `REFUSED` and the number"
 pub refused-text : (file : List ℕ) → (loadOf file freshOf .refusal ≡ 0 → ⊥) → jobText file ≡ refusedText (loadOf file freshOf .refusal)
@@ -28,9 +28,9 @@ refused-text file h = sym (text-refused file refl refl h)
 
 -- "prints one row a cycle and then a line of `END` and the cycle count": n + 3 rows, and none where n is 0
 pub accepted-text : (file : List ℕ) → loadOf file freshOf .refusal ≡ 0
-    → jobText file ≡ rowsOf (lastOf (goneWith file .program .n .0)) (goneWith file) ++ endText (lastOf (goneWith file .program .n .0))
+    → jobText file ≡ rowsOf (lastOf (traced file .program .n .0)) (traced file) ++ endText (lastOf (traced file .program .n .0))
 accepted-text file h =
-    let u = goneWith file in
+    let u = traced file in
     let none : u .cycle ≡ 0 = none-made file refl refl refl in
     let all : lastOf (u .program .n .0) - u .cycle ≡ lastOf (u .program .n .0) = omega arith in
     sym (text-accepted file refl refl refl h) ∙ sym (trace-is u (gone-made file refl refl refl) (went-on file refl refl refl) refl) ∙ ap (λ (c : ℕ). rowsOf c u ++ endText c) all
@@ -62,16 +62,16 @@ text-size file = go (eqb (loadOf file freshOf .refusal) 0) refl
     go true q =
         let ok = eqb-true (loadOf file freshOf .refusal) 0 q in
         let made = gone-made file refl refl refl in
-        let u = goneWith file in
+        let u = traced file in
         rw (← (text-accepted file refl refl refl ok)) (omega (arith, trace-long u made (went-on file refl refl refl) refl, last-small u made))
     go false q =
         rw (refused-text file (eqb-false (loadOf file freshOf .refusal) 0 q)) (omega (arith, refused-long (loadOf file freshOf .refusal) .1))
 
 -- and a job of 64 lines has one so large
-pub largest-reached : (file : List ℕ) → loadOf file freshOf .refusal ≡ 0 → goneWith file .program .n .0 ≡ 64
+pub largest-reached : (file : List ℕ) → loadOf file freshOf .refusal ≡ 0 → traced file .program .n .0 ≡ 64
     → length (jobText file) ≡ largestText
 largest-reached file ok full =
-    let u = goneWith file in
+    let u = traced file in
     let none : u .cycle ≡ 0 = none-made file refl refl refl in
     let end : lastOf (u .program .n .0) ≡ 67 = ap lastOf full in
     rw (← (text-accepted file refl refl refl ok)) (omega (arith, trace-long u (gone-made file refl refl refl) (went-on file refl refl refl) refl))

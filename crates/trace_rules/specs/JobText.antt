@@ -46,7 +46,7 @@ cyclesLeft u = ranOf u mostCycles .made
 unfoldable pub traceText : Unit → List ℕ
 traceText u = rowsOf (cyclesLeft u) u ++ endText (cyclesLeft u)
 
--- of a load as it came out: the trace of the unit once it goes
+-- of a load as it came out: the trace of the unit once it goes, or the refusal
 abbrev pub textFor : Loaded → List ℕ
 textFor s = cond (eqb (s .refusal) 0) (traceText (goOf (s .unit) .unit)) (refusedText (s .refusal))
 

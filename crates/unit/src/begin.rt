@@ -87,7 +87,7 @@ fn load_file(u: Unit, file: &[u8]) -> Loaded
     }
 }
 
-// Loads the job of a file. Refused with 10, with 18 where a run is on its way, then with 1 to 6; and then the unit is as it was given, and a run that is on its way
+// Loads the job of a file. Refused with 10, with 18 where a run is in progress, then with 1 to 6; and then the unit is as it was given, and a run in progress
 // goes on as before.
 pub fn load(u: Unit, file: &[u8]) -> Loaded
     ensures { λ r. ⌜ r ≡ loadOf (now (file .entry)) u ⌝ }

@@ -76,7 +76,7 @@ forwarded j i o f h k =
     (newest-is (takesThird r) t (i .third) v f h k x))
     ∙ sym (outcome-gated w _ _ _)
 
-stored-whole : (t : Target) (v : Register) (f : List Register) → Whole f → Whole (stored t v f)
+pub stored-whole : (t : Target) (v : Register) (f : List Register) → Whole f → Whole (stored t v f)
 stored-whole None v f k = k
 stored-whole (To d) v f k = length-set f (d .0) v ∙ k
 

@@ -6,6 +6,7 @@ use mathlib.Core.Bool.{Bool, true, false}
 use Prim.Native.Nat.{ℕ, _+_}
 use mathlib.Core.List.{List, [], _∷_, map}
 use lib.ListN.{length, replicate}
+use Rattle.register.specs.declared.Register.{Register}
 use Rattle.register.specs.Layout.{zeroRegister}
 use Rattle.table.specs.Decided.{decided}
 use Rattle.table.specs.Fields.{firstOf}
@@ -83,6 +84,14 @@ pub go-at-any-time : (let again : Unit → ℕ = λ u. goOf u .refusal + ranOf (
     ≡ (4 ∷ 4 ∷ 4 ∷ 4 ∷ 4 ∷ 4 ∷ [])
 unfolding goOf ranOf goesOn decided wellMadeOf drainedOf cyclesOf cycleOf firstBad firstOf operationOf targetOf
 go-at-any-time = refl
+
+-- and register 0, 31 and those between are as they stood
+abbrev full : Register
+full = record { w0 = 1; w1 = 2; w2 = 3; w3 = 4 }
+
+pub registers-as-they-stood : goOf (begunOf true (lines (0 ∷ [])) (replicate 32 full)) .unit .registers ≡ replicate 32 full
+unfolding goOf decided wellMadeOf firstBad
+registers-as-they-stood = refl
 
 -- a file of one line is loaded; then a cycle is refused with 8 and a run makes none, and once it goes four are made
 abbrev loadedUnit : Unit

@@ -2,16 +2,16 @@
 -- leaves a well-made record. Carried by `drained-after` and `goes-on`.
 -- Assumes nothing.
 use Rattle.unit_rules.proofs.Shared.{ℕ, zero, suc, _+_, _-_, _≤_, _<_, min, _≡_, refl, sym, ap, subst, _∙_, Bool, true, false, cond, List, []}
-use Rattle.unit_rules.proofs.Shared.{_∷_, add-zero, arith, eqb-true, eqb-false, lt-leb, le-leb, leb-true, leb-false, eqb, leb, true≢false, false≢true, DRAINED}
+use Rattle.unit_rules.proofs.Shared.{_∷_, add-zero, arith, eqb-true, eqb-false, lt-leb, le-leb, leb-true, leb-false, eqb, leb, DRAINED}
 use Rattle.unit_rules.proofs.Shared.{instructionsAt, readOf, Unit, Cycled, Ran, cyclesOf, drainedOf, wellMadeOf, lastOf, goneOf, loadedOf, loadOf, goOf, cycledOf}
-use Rattle.unit_rules.proofs.Shared.{ranOf, goesOn, afterCalls, Call, unitAfter, cyclesIn, begins, unitAfterAll, cyclesInAll, beginsInAll}
+use Rattle.unit_rules.proofs.Shared.{ranOf, goesOn, afterCalls, Call, unitAfter, cyclesIn, renews, unitAfterAll, cyclesInAll, renewsInAll}
 use Rattle.table.proofs.Decided.{stops, passes, ends, not-denied, neither-held}
 use Rattle.unit_rules.specs.declared.Loaded.{Loaded}
 use Rattle.unit_rules.specs.declared.Gone.{Gone}
 use Rattle.unit_rules.specs.Sequence.Call.{load, go, cycle, row, run, register, drained}
 use Rattle.unit_rules.proofs.Positions.{drained-after, not-drained-gone, cycles-program, cycles-number, cycles-gone}
 use Rattle.unit_rules.proofs.WellMade.{WellMade, well-made-says, well-made-test, well-made-cycles, cycles-join, leftOf, goes-on}
-use Rattle.unit_rules.proofs.Loading.{sound-read, load-taken, load-sets, load-refused, go-begins, well-made-loaded, well-made-gone}
+use Rattle.unit_rules.proofs.Loading.{sound-read, load-taken, load-sets, load-refused, go-begins, loaded-made, well-made-gone}
 
 -- ---- calls of `cycle` on a well-made unit that has gone
 
@@ -55,6 +55,24 @@ module _ (u : Unit) (made : wellMadeOf u ≡ true) (done : drainedOf u ≡ true)
   unfolding ranOf
   run-of-drained k = sym (passes _ _ _ (not-denied made) (rw (no-more k) ends))
 
+  -- whatever is asked of it, but a go and a load that it accepts
+  pub rests : (x : Call) → renews x u ≡ false → unitAfter x u ≡ u
+  rests (load file) none = load-refused file u (eqb-false (loadOf file u .refusal) 0 none)
+  rests go none = absurd (eqb-false (goOf u .refusal) 0 none (ap (λ (a : Gone). a .refusal) (go-begins u made)))
+  rests cycle none = ap (λ (a : Cycled). a .unit) cycle-of-drained
+  rests (row true) none = ap (λ (a : Cycled). a .unit) cycle-of-drained
+  rests (row false) none = refl
+  rests (run k) none = ap (λ (a : Ran). a .unit) (run-of-drained k)
+  rests (register i) none = refl
+  rests drained none = refl
+
+  pub rests-on : (calls : List Call) → renewsInAll calls u ≡ false → unitAfterAll calls u ≡ u
+  rests-on [] none = refl
+  rests-on (x ∷ calls) none =
+      let neither = neither-held (renews x u) (renewsInAll calls (unitAfter x u)) none in
+      let same = rests x (neither .0) in
+      ap (unitAfterAll calls) same ∙ rests-on calls (sym (ap (renewsInAll calls) same) ∙ neither .1)
+
 -- ---- any calls on a unit that has gone, until the next go or accepted load
 
 module _ (u : Unit) (went : u .gone ≡ true) (w : WellMade u) where
@@ -91,10 +109,12 @@ module _ (u : Unit) (went : u .gone ≡ true) (w : WellMade u) where
         fits = omega (arith, m, left);
       }
 
-  pub made-by : (x : Call) (c : ℕ) → u .cycle + c ≤ lastOf (u .program .n .0) → begins x (cyclesOf c u) ≡ false → Made x c
+  pub made-by : (x : Call) (c : ℕ) → u .cycle + c ≤ lastOf (u .program .n .0) → renews x (cyclesOf c u) ≡ false → Made x c
   made-by (load file) c h none =
       record { unit = load-refused file (cyclesOf c u) (eqb-false (loadOf file (cyclesOf c u) .refusal) 0 none) ∙ rw (add-zero c); fits = omega arith }
-  made-by go c h none = absurd (true≢false none)
+  made-by go c h none =
+      let v = cyclesOf c u in
+      absurd (eqb-false (goOf v .refusal) 0 none (ap (λ (a : Gone). a .refusal) (go-begins v (well-made-test v (well-made-cycles u went w c h)))))
   made-by cycle c h none = made-by-cycle c h
   made-by (row true) c h none = let m = made-by-cycle c h in record { unit = m .unit; fits = m .fits }
   made-by (row false) c h none = record { unit = rw (add-zero c); fits = omega arith }
@@ -103,15 +123,15 @@ module _ (u : Unit) (went : u .gone ≡ true) (w : WellMade u) where
   made-by drained c h none = record { unit = rw (add-zero c); fits = omega arith }
 
   -- calls one after another
-  pub all-made : (calls : List Call) (c : ℕ) → u .cycle + c ≤ lastOf (u .program .n .0) → beginsInAll calls (cyclesOf c u) ≡ false
+  pub all-made : (calls : List Call) (c : ℕ) → u .cycle + c ≤ lastOf (u .program .n .0) → renewsInAll calls (cyclesOf c u) ≡ false
       → (unitAfterAll calls (cyclesOf c u) ≡ cyclesOf (c + cyclesInAll calls (cyclesOf c u)) u)
       × (u .cycle + (c + cyclesInAll calls (cyclesOf c u)) ≤ lastOf (u .program .n .0))
   all-made [] c h none = (ap (λ (k : ℕ). cyclesOf k u) (sym (add-zero c)), omega arith)
   all-made (x ∷ calls) c h none =
-      let neither = neither-held (begins x (cyclesOf c u)) (beginsInAll calls (unitAfter x (cyclesOf c u))) none in
+      let neither = neither-held (renews x (cyclesOf c u)) (renewsInAll calls (unitAfter x (cyclesOf c u))) none in
       let m = made-by x c h (neither .0) in
       let d = c + cyclesIn x (cyclesOf c u) in
-      let rest = all-made calls d (m .fits) (sym (ap (beginsInAll calls) (m .unit)) ∙ neither .1) in
+      let rest = all-made calls d (m .fits) (sym (ap (renewsInAll calls) (m .unit)) ∙ neither .1) in
       let count : d + cyclesInAll calls (cyclesOf d u) ≡ c + cyclesInAll (x ∷ calls) (cyclesOf c u)
       = omega (arith, ap (cyclesInAll calls) (m .unit)) in (
         ap (unitAfterAll calls) (m .unit) ∙ rest .0 ∙ ap (λ (k : ℕ). cyclesOf k u) count,
@@ -131,25 +151,15 @@ module _ (u : Unit) (made : wellMadeOf u ≡ true) where
       case true q =
           let t = load-taken file u (eqb-true (loadOf file u .refusal) 0 q) in
           let set = ap (λ (a : Loaded). a .unit) (load-sets file u t) in
-          ap wellMadeOf set ∙ well-made-test _ (well-made-loaded (readOf instructionsAt file .job) u (sound-read file (t .good)))
+          ap wellMadeOf set ∙ well-made-test _ (loaded-made (readOf instructionsAt file .job) u (sound-read file (t .good)))
       case false q = ap wellMadeOf (load-refused file u (eqb-false (loadOf file u .refusal) 0 q)) ∙ made
 
-  after-others : (x : Call) → begins x u ≡ false → wellMadeOf (unitAfter x u) ≡ true
+  after-others : (x : Call) → renews x u ≡ false → wellMadeOf (unitAfter x u) ≡ true
   unfolding cyclesOf
   after-others x none = case (drainedOf u) refl
     where
-      resting : drainedOf u ≡ true → (y : Call) → begins y u ≡ false → unitAfter y u ≡ u
-      resting done (load file) e = load-refused file u (eqb-false (loadOf file u .refusal) 0 e)
-      resting done go e = absurd (true≢false e)
-      resting done cycle e = ap (λ (a : Cycled). a .unit) (cycle-of-drained u made done)
-      resting done (row true) e = ap (λ (a : Cycled). a .unit) (cycle-of-drained u made done)
-      resting done (row false) e = refl
-      resting done (run k) e = ap (λ (a : Ran). a .unit) (run-of-drained u made done k)
-      resting done (register i) e = refl
-      resting done drained e = refl
-
       case : (t : Bool) → drainedOf u ≡ t → wellMadeOf (unitAfter x u) ≡ true
-      case true q = ap wellMadeOf (resting q x none) ∙ made
+      case true q = ap wellMadeOf (rests u made q x none) ∙ made
       case false q =
           let went = not-drained-gone u q in
           let m = made-by u went w x 0 (omega (arith, w .reached)) none in
@@ -163,3 +173,7 @@ module _ (u : Unit) (made : wellMadeOf u ≡ true) where
   well-made-after (run k) = after-others (run k) refl
   well-made-after (register i) = made
   well-made-after drained = made
+
+pub kept-made : (calls : List Call) (u : Unit) → wellMadeOf u ≡ true → wellMadeOf (unitAfterAll calls u) ≡ true
+kept-made [] u made = made
+kept-made (x ∷ calls) u made = kept-made calls (unitAfter x u) (well-made-after u made x)

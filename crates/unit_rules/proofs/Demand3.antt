@@ -4,21 +4,22 @@
 use Rattle.unit_rules.proofs.Shared.{ℕ, _+_, _-_, _≤_, _<_, min, _≡_, refl, sym, ap, subst, _∙_, _↔_, Bool, true, false, cond, List, map, zero-add}
 use Rattle.unit_rules.proofs.Shared.{le-refl, arith, eq-eqb, eqb-true, leb-true, leb-false, le-leb, eqb, leb, getD, take, length, take-all}
 use Rattle.unit_rules.proofs.Shared.{length-take-le, Register, zeroRegister, rowOf, DRAINED, STATE, BUSY, plain, plainRows, registers-as-rows, Job}
-use Rattle.unit_rules.proofs.Shared.{instructionsAt, readOf, linesOf, Unit, fetchedIn, Cycled, Ran, cyclesOf, inDecoded, inExecuted, drainedOf, lastOf}
+use Rattle.unit_rules.proofs.Shared.{instructionsAt, readOf, Program, linesOf, Unit, fetchedIn, Cycled, Ran, cyclesOf, inDecoded, inExecuted, drainedOf, lastOf}
 use Rattle.unit_rules.proofs.Shared.{wellMadeOf, begunOf, goneOf, registersSet, loadedOf, loadedBy, loadOf, goOf, cycledOf, ranOf, askedDrained, Whole, afterCalls}
-use Rattle.unit_rules.proofs.Shared.{Call, unitAfterAll, cyclesInAll, beginsInAll, unitWith}
+use Rattle.unit_rules.proofs.Shared.{Call, unitAfterAll, cyclesInAll, renewsInAll, unitWith}
 use Rattle.plain_rules.specs.Answer.{answerOf, executeAllOf}
 use Rattle.plain_rules.proofs.Refusals.{executed}
 use Rattle.table.proofs.Decided.{passes, ends, not-denied}
 use Rattle.unit_rules.specs.declared.Loaded.{Loaded}
 use Rattle.unit_rules.specs.declared.Gone.{Gone}
 use Rattle.unit_rules.specs.declared.Drained.{Drained}
+use Rattle.unit_rules.specs.Sequence.Call.{go}
 use Rattle.unit_rules.specs.Settled.{settledFlight}
 use Rattle.unit_rules.proofs.Positions.{drained-after, drained-loaded, cycles-program, cycles-number, cycles-gone}
 use Rattle.unit_rules.proofs.Settled.{id-told, ex-told}
 use Rattle.unit_rules.proofs.WellMade.{WellMade, well-made-says, well-made-test, well-made-cycles, cycles-join, leftOf}
-use Rattle.unit_rules.proofs.Loading.{Sound, sound-read, load-ill-made, load-busy, load-reads, Taken, load-taken, load-sets, load-refused, go-begins, go-ill-made, left-as-they-were, set-whole, set-from-file, well-made-loaded, well-made-gone, enough-words, unit-gone}
-use Rattle.unit_rules.proofs.Calls.{next-call, no-call, calls-are-cycles, ran, cycle-of-drained, run-of-drained, all-made}
+use Rattle.unit_rules.proofs.Loading.{Sound, sound-read, load-ill-made, load-busy, load-reads, Taken, load-taken, load-sets, load-refused, go-begins, go-ill-made, left-as-they-were, set-whole, set-from-file, loaded-made, plain-whole, well-made-gone, enough-words, unit-gone}
+use Rattle.unit_rules.proofs.Calls.{next-call, no-call, calls-are-cycles, ran, cycle-of-drained, run-of-drained, rests-on, all-made, well-made-after, kept-made}
 
 -- ---- a go
 
@@ -72,11 +73,11 @@ module _ (u : Unit) (whole : Whole (u .registers)) (made : wellMadeOf u ≡ true
   are-cycles : (c : ℕ) → c ≤ lastOf n → afterCalls c gone ≡ cyclesOf c begun
   are-cycles c h = ap (afterCalls c) is-begun ∙ calls-are-cycles begun refl w c (omega arith)
 
-  all-calls : (calls : List Call) → beginsInAll calls gone ≡ false
+  all-calls : (calls : List Call) → renewsInAll calls gone ≡ false
       → (cyclesInAll calls gone ≤ lastOf n) × (unitAfterAll calls gone ≡ cyclesOf (cyclesInAll calls gone) begun)
   unfolding cyclesOf
   all-calls calls none =
-      let a = all-made begun refl w calls 0 (omega arith) (sym (ap (beginsInAll calls) is-begun) ∙ none) in
+      let a = all-made begun refl w calls 0 (omega arith) (sym (ap (renewsInAll calls) is-begun) ∙ none) in
       let same : cyclesInAll calls gone ≡ cyclesInAll calls begun = ap (cyclesInAll calls) is-begun in (
         omega (arith, a .1, same),
         ap (unitAfterAll calls) is-begun ∙ a .0 ∙ ap (λ (k : ℕ). cyclesOf k begun) (zero-add (cyclesInAll calls begun) ∙ sym same),
@@ -149,7 +150,7 @@ module _ (u : Unit) (whole : Whole (u .registers)) (made : wellMadeOf u ≡ true
 
   -- Until the next go or load: after any calls since then, of which c is the number of cycles made in them, the unit is the one that c calls of `cycle` leave,
   -- its registers are the plain machine's after the first c - 3 words, and it is drained exactly when c is n + 3, or 0 with n = 0.
-  pub demand3-until-the-next-go-or-load : (calls : List Call) → beginsInAll calls gone ≡ false
+  pub demand3-until-the-next-go-or-load : (calls : List Call) → renewsInAll calls gone ≡ false
       → (let c = cyclesInAll calls gone in
       (c ≤ lastOf n)
       × (unitAfterAll calls gone ≡ afterCalls c gone)
@@ -166,7 +167,7 @@ module _ (u : Unit) (whole : Whole (u .registers)) (made : wellMadeOf u ≡ true
       )
 
   -- However a run is split into runs and single cycles, with other calls between: as many cycles leave the same unit.
-  pub demand3-any-split : (calls others : List Call) → beginsInAll calls gone ≡ false → beginsInAll others gone ≡ false
+  pub demand3-any-split : (calls others : List Call) → renewsInAll calls gone ≡ false → renewsInAll others gone ≡ false
       → cyclesInAll calls gone ≡ cyclesInAll others gone → unitAfterAll calls gone ≡ unitAfterAll others gone
   demand3-any-split calls others none none-here same =
       demand3-until-the-next-go-or-load calls none .1
@@ -255,7 +256,7 @@ module _ (file : List ℕ) (u : Unit) (whole : Whole (u .registers)) (accepts : 
   pub demand3-loaded-made : Whole (loaded .registers) × (wellMadeOf loaded ≡ true)
   demand3-loaded-made = (
     ap (λ (v : Unit). length (v .registers)) demand3-loaded ∙ set-whole (job .r) (job .registers) (u .registers) whole,
-    ap wellMadeOf demand3-loaded ∙ well-made-test _ (well-made-loaded job u sound),
+    ap wellMadeOf demand3-loaded ∙ well-made-test _ (loaded-made job u sound),
   )
 
   -- A loaded unit is drained; a cycle of it is refused with 8, and a run of it makes 0 cycles.
@@ -267,6 +268,10 @@ module _ (file : List ℕ) (u : Unit) (whole : Whole (u .registers)) (accepts : 
       let made = demand3-loaded-made .1 in
       (done, cycle-of-drained loaded made done, run-of-drained loaded made done)
 
+  -- Whatever calls come, it stays as it was loaded until the next go or load.
+  pub demand3-loaded-until-it-goes : (calls : List Call) → renewsInAll calls loaded ≡ false → unitAfterAll calls loaded ≡ loaded
+  demand3-loaded-until-it-goes = rests-on loaded (demand3-loaded-made .1) (demand3-loaded-rests .0)
+
   -- Gone then, after c cycles its registers are what the plain machine leaves of the file's first c - 3 words, beginning from the registers as the load set them.
   pub demand3-job : (c : ℕ) → c ≤ lastOf (job .program .n .0)
       → afterCalls c (goOf loaded .unit) .registers ≡ plain (take (c - 3) (linesOf (job .program))) set
@@ -277,42 +282,66 @@ module _ (file : List ℕ) (u : Unit) (whole : Whole (u .registers)) (accepts : 
       size : lastOf (loaded .program .n .0) ≡ lastOf (job .program .n .0)
       size = ap (λ (v : Unit). lastOf (v .program .n .0)) demand3-loaded
 
-  -- the unit once all of the job is done
-  abbrev done : Unit
-  done = afterCalls (lastOf (job .program .n .0)) (goOf loaded .unit)
+-- ---- a second load
 
-  -- Loaded again then with a second file that is good, it is accepted, and what it has of the first job are the registers that the plain machine leaves after all
-  -- of its words, and nothing else.
-  pub demand3-second-load : (second : List ℕ) → readOf instructionsAt second .refusal ≡ 0
-      → (let next = readOf instructionsAt second .job in
-      loadOf second done
-      ≡ record { refusal = 0; place = 0; unit = begunOf false (next .program) (registersSet (next .r) (next .registers) (plain (linesOf (job .program)) set)) })
-  demand3-second-load second good =
-      let next = readOf instructionsAt second .job in
-      load-sets second done (record { made = made-done; done = all-done; good = good })
-      ∙ (λ i. record { refusal = 0; place = 0; unit = begunOf false (next .program) (registersSet (next .r) (next .registers) (left i)) })
+-- Once the unit is drained behind any calls since the go, a second file that is good is accepted, and what the unit has then of the first job are the registers that the
+-- plain machine leaves after all of its words, and nothing else.
+module _ (first : List ℕ) (u : Unit) (whole : Whole (u .registers)) (accepts : loadOf first u .refusal ≡ 0) (calls : List Call)
+    (none : renewsInAll calls (goOf (loadOf first u .unit) .unit) ≡ false) (done : drainedOf (unitAfterAll calls (goOf (loadOf first u .unit) .unit)) ≡ true)
+    (second : List ℕ) (good : readOf instructionsAt second .refusal ≡ 0) where
+  -- the unit loaded with the first job, and when that is done; both jobs; the registers that each of the loads sets
+  abbrev with-first : Unit
+  with-first = loadOf first u .unit
+
+  abbrev first-done : Unit
+  first-done = unitAfterAll calls (goOf with-first .unit)
+
+  abbrev one : Job
+  one = readOf instructionsAt first .job
+
+  abbrev two : Job
+  two = readOf instructionsAt second .job
+
+  abbrev first-set : List Register
+  first-set = registersSet (one .r) (one .registers) (u .registers)
+
+  abbrev second-set : List Register
+  second-set = registersSet (two .r) (two .registers) (plain (linesOf (one .program)) first-set)
+
+  -- what demand 3 says of these calls, of the program and the registers that were loaded
+  abbrev Until : Program → List Register → Type 0
+  Until p f = (let c = cyclesInAll calls (goOf with-first .unit) in
+      (first-done .registers ≡ plain (take (c - 3) (linesOf p)) f) × (drainedOf first-done ≡ leb (lastOf (p .n .0)) c))
+
+  until : Until (one .program) first-set
+  until =
+      let made = demand3-loaded-made first u whole accepts in
+      let d = demand3-until-the-next-go-or-load with-first (made .0) (made .1) calls none in
+      subst (λ (v : Unit). Until (v .program) (v .registers)) (demand3-loaded first u whole accepts) (d .2, d .3)
+
+  left : first-done .registers ≡ plain (linesOf (one .program)) first-set
+  left =
+      let c = cyclesInAll calls (goOf with-first .unit) in
+      let all = leb-true (lastOf (one .program .n .0)) c (sym (until .1) ∙ done) in
+      until .0 ∙ ap (λ (p : List ℕ). plain p first-set) (take-all (c - 3) (linesOf (one .program)) (omega (arith, all, many, last-lines (one .program .n .0))))
     where
-      n₁ : ℕ
-      n₁ = job .program .n .0
+      many : length (linesOf (one .program)) ≡ one .program .n .0
+      many =
+          let sound = sound-read first (load-taken first u accepts .good) in
+          length-take-le (one .program .n .0) (one .program .words) (omega (arith, sound .few, sound .lines))
 
-      size : loaded .program .n .0 ≡ n₁
-      size = ap (λ (v : Unit). v .program .n .0) demand3-loaded
+  pub demand3-second-load : loadOf second first-done ≡ record { refusal = 0; place = 0; unit = begunOf false (two .program) second-set }
+  demand3-second-load =
+      load-sets second first-done (record { made = well-made; done = done; good = good })
+      ∙ (λ i. record { refusal = 0; place = 0; unit = begunOf false (two .program) (registersSet (two .r) (two .registers) (left i)) })
+    where
+      well-made : wellMadeOf first-done ≡ true
+      well-made = kept-made calls (goOf with-first .unit) (well-made-after with-first (demand3-loaded-made first u whole accepts .1) go)
 
-      last : lastOf n₁ ≤ lastOf (loaded .program .n .0)
-      last = omega (arith, ap lastOf size)
-
-      made-done : wellMadeOf done ≡ true
-      made-done = demand3-well-made loaded (demand3-loaded-made .0) (demand3-loaded-made .1) (lastOf n₁) last
-
-      all-done : drainedOf done ≡ true
-      all-done =
-          demand3-drained loaded (demand3-loaded-made .0) (demand3-loaded-made .1) (lastOf n₁) last
-          ∙ le-leb (lastOf (loaded .program .n .0)) (lastOf n₁) (omega (arith, ap lastOf size))
-
-      left : done .registers ≡ plain (linesOf (job .program)) set
-      left =
-          demand3-job (lastOf n₁) (le-refl (lastOf n₁))
-          ∙ ap (λ (p : List ℕ). plain p set) (take-all (lastOf n₁ - 3) (linesOf (job .program)) (omega (arith, many, last-lines n₁)))
-        where
-          many : length (linesOf (job .program)) ≡ n₁
-          many = length-take-le n₁ (job .program .words) (omega (arith, sound .few, sound .lines))
+  -- Gone then, after c cycles its registers are what the plain machine leaves of the second file's first c - 3 words, beginning from these.
+  pub demand3-second-run : (c : ℕ) → c ≤ lastOf (two .program .n .0)
+      → afterCalls c (goOf (loadOf second first-done .unit) .unit) .registers ≡ plain (take (c - 3) (linesOf (two .program))) second-set
+  demand3-second-run c h =
+      demand3-job second first-done (rw left (plain-whole (linesOf (one .program)) first-set (set-whole (one .r) (one .registers) (u .registers) whole)))
+      (ap (λ (a : Loaded). a .refusal) demand3-second-load) c h
+      ∙ ap (λ (f : List Register). plain (take (c - 3) (linesOf (two .program))) (registersSet (two .r) (two .registers) f)) left

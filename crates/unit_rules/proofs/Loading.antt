@@ -4,7 +4,7 @@
 use Rattle.unit_rules.proofs.Shared.{ℕ, zero, suc, _+_, _-_, _≤_, _<_, _≡_, refl, sym, ap, subst, _∙_, Bool, true, false, cond, List, [], _∷_}
 use Rattle.unit_rules.proofs.Shared.{arith, not-false, length-take, _^_, eq-eqb, ne-eqb, eqb-true, eqb-false, eqb, ltb, getD, set, drop, length, length-set, length-append}
 use Rattle.unit_rules.proofs.Shared.{length-replicate, take-append-seam, length-take-le, getD-set-same, getD-set-other, Register, zeroRegister, wordAt, ofBytes}
-use Rattle.unit_rules.proofs.Shared.{STATE, BUSY, firstBad, plain, take, Job, ReadJob, instructionsAt, twoAt, registersAt, wordsIn, registersOf, filled, jobOf}
+use Rattle.unit_rules.proofs.Shared.{STATE, BUSY, targetOf, firstBad, stepOn, plainOn, step, plain, take, Job, ReadJob, instructionsAt, twoAt, registersAt, wordsIn, registersOf, filled, jobOf}
 use Rattle.unit_rules.proofs.Shared.{readOf, Program, linesOf, Unit, cyclesOf, drainedOf, wellMadeOf, registersSet, loadedOf, loadedBy, loadOf, goneOf, goOf}
 use Rattle.unit_rules.proofs.Shared.{unitWith, Whole}
 use Rattle.table.proofs.Decided.{stops, passes, ends, each, none-refused, denied, not-denied}
@@ -14,6 +14,7 @@ use Rattle.unit_rules.specs.declared.Loaded.{Loaded}
 use Rattle.unit_rules.specs.declared.Gone.{Gone}
 use Rattle.unit_rules.specs.Settled.{settledFlight}
 use Rattle.unit_rules.proofs.WellMade.{WellMade, well-made-says, well-made-begun}
+use Rattle.unit_rules.proofs.AsPipeline.{stored-whole}
 use Rattle.unit_rules.proofs.Settled.{unit-after}
 
 -- ---- a job that was read
@@ -132,11 +133,17 @@ set-from-file (suc r) file f k few i h = go (eqb i r) refl (set-from-file r file
 
 -- ---- well made, and what follows a go
 
-pub well-made-loaded : (j : Job) (u : Unit) → Sound j → WellMade (loadedOf j u)
-well-made-loaded j u s = well-made-begun false (j .program) (registersSet (j .r) (j .registers) (u .registers)) (s .few) (s .good)
+pub loaded-made : (j : Job) (u : Unit) → Sound j → WellMade (loadedOf j u)
+loaded-made j u s = well-made-begun false (j .program) (registersSet (j .r) (j .registers) (u .registers)) (s .few) (s .good)
 
 pub well-made-gone : (u : Unit) → WellMade u → WellMade (goneOf u)
 well-made-gone u w = well-made-begun true (u .program) (u .registers) (w .few) (w .good)
+
+-- plain execution leaves a whole file
+pub plain-whole : (p : List ℕ) (f : List Register) → Whole f → Whole (plain p f)
+unfolding plainOn stepOn
+plain-whole [] f k = k
+plain-whole (w ∷ p) f k = plain-whole p (step w f) (stored-whole (targetOf w) _ f k)
 
 -- a program's n lines are there
 bad-at-most : (ws : List ℕ) → firstBad ws ≤ length ws

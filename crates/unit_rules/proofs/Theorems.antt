@@ -1,11 +1,11 @@
 -- For the reader of specs/: what the test of a record says in either state, that every call leaves a well-made record and refuses with 10 one that is not, what leaves the registers
 -- as they are, and where a register's number ends.
 -- Assumes nothing.
-use Rattle.unit_rules.proofs.Shared.{ℕ, zero, suc, _+_, _≤_, _<_, _≡_, refl, sym, ap, subst, _∙_, _↔_, Bool, true, false, cond, not, _&&_, _||_, false≢true, true≢false, List, [], _∷_}
-use Rattle.unit_rules.proofs.Shared.{arith, lt-ltb, le-ltb, leb-true, le-leb, eq-eqb, eqb-true, eqb-false, leb, eqb, getD, length-replicate, Register, zeroRegister, STATE}
+use Rattle.unit_rules.proofs.Shared.{ℕ, zero, suc, _+_, _≤_, _<_, _≡_, refl, sym, ap, subst, _∙_, _↔_, Bool, true, false, cond, not, _&&_, _||_, false≢true, List, [], _∷_, map}
+use Rattle.unit_rules.proofs.Shared.{arith, lt-ltb, le-ltb, leb-true, le-leb, eq-eqb, eqb-true, eqb-false, leb, eqb, getD, length-replicate, Register, zeroRegister, STATE, DRAINED}
 use Rattle.unit_rules.proofs.Shared.{firstBad, linesOf, IfId, IdEx, ExWb, Unit, Whole, inDecoded, inExecuted, isEmpty, allEmpty, programMade, restMade, cycleOf}
 use Rattle.unit_rules.proofs.Shared.{Cycled, Ran, drainedOf, wellMadeOf, freshOf, loadOf, goOf, cycledOf, goesOn, ranOf, registerOf, askedDrained}
-use Rattle.unit_rules.proofs.Shared.{Call, unitAfter, cyclesIn, begins, unitAfterAll}
+use Rattle.unit_rules.proofs.Shared.{Call, unitAfter, cyclesIn, renews, unitAfterAll, renewsInAll}
 use Rattle.unit_rules.proofs.Shared.IF/ID
 use Rattle.unit_rules.proofs.Shared.ID/EX
 use Rattle.unit_rules.proofs.Shared.EX/WB
@@ -20,16 +20,16 @@ use Rattle.table.proofs.Rows.{all-alike}
 use Rattle.unit_rules.proofs.Positions.{drained-loaded}
 use Rattle.unit_rules.proofs.WellMade.{WellMade, well-made-says, well-made-test, rest-test, both, empty-held}
 use Rattle.unit_rules.proofs.Loading.{load-ill-made, load-refused, go-ill-made}
-use Rattle.unit_rules.proofs.Calls.{well-made-after}
+use Rattle.unit_rules.proofs.Calls.{cycle-of-drained, run-of-drained, well-made-after, kept-made}
 
 -- the test holds exactly of what the documents call well made
 pub well-made-exactly : (u : Unit) → (wellMadeOf u ≡ true) ↔ WellMade u
 well-made-exactly u = (well-made-says u, well-made-test u)
 
--- "A fresh unit .. is drained", and well made
-pub fresh-drained : (drainedOf freshOf ≡ true) × (wellMadeOf freshOf ≡ true)
+-- "A fresh unit .. is drained", and well made; it is loaded and has not gone
+pub fresh-drained : (drainedOf freshOf ≡ true) × (wellMadeOf freshOf ≡ true) × (freshOf .gone ≡ false)
 unfolding drainedOf wellMadeOf firstBad
-fresh-drained = (refl, refl)
+fresh-drained = (refl, refl, refl)
 
 -- "a register number over 31"
 pub register-over-31 : (u : Unit) (i : ℕ) → wellMadeOf u ≡ true → 31 < i
@@ -86,10 +86,15 @@ well-made-loaded u still = (
   λ h. rw (still, le-leb _ _ (h .0), le-leb _ _ (h .1), eq-eqb _ _ (h .2), eq-eqb _ _ (h .3)) (nothing-held u .1 (h .4)),
 )
 
--- "A loaded unit that has not gone counts as drained."
-pub drained-until-it-goes : (u : Unit) → wellMadeOf u ≡ true → u .gone ≡ false → _≡_ {A = Drained} (askedDrained u) (record { refusal = 0; drained = true })
+-- "A loaded unit that has not gone counts as drained": so it is answered; a cycle is refused with 8, and a run makes none
+pub drained-until-it-goes : (u : Unit) → wellMadeOf u ≡ true → u .gone ≡ false
+    → (_≡_ {A = Drained} (askedDrained u) (record { refusal = 0; drained = true }))
+    × (_≡_ {A = Cycled} (cycledOf u) (record { refusal = DRAINED; unit = u }))
+    × ((k : ℕ) → _≡_ {A = Ran} (ranOf u k) (record { refusal = 0; made = 0; unit = u }))
 unfolding askedDrained
-drained-until-it-goes u w still = sym (passes _ _ _ (not-denied w) (rw (drained-loaded u still) ends))
+drained-until-it-goes u w still =
+    let done = drained-loaded u still in
+    (sym (passes _ _ _ (not-denied w) (rw done ends)), cycle-of-drained u w done, run-of-drained u w done)
 
 -- Once it has, it "is drained when the count has reached n and all latches are empty": so it is answered, and only so
 pub drained-exactly : (u : Unit) → wellMadeOf u ≡ true → u .gone ≡ true
@@ -156,18 +161,23 @@ run-keeps u k = each Kept _ _ (λ h. refl, tt) (none-gone k u)
     Kept : Ran → Type 0
     Kept a = a .made ≡ 0 → a .unit ≡ u
 
+-- a go and a load that are accepted, no other call, and so no calls at all, end what demand 3 says of the last go; and no cycle is made in these and in the calls that ask
+pub what-renews : (u : Unit) (file : List ℕ) (room : Bool) (k i : ℕ)
+    → (map (λ (x : Call). renews x u) (load file ∷ go ∷ cycle ∷ row room ∷ run k ∷ register i ∷ drained ∷ [])
+    ≡ (eqb (loadOf file u .refusal) 0 ∷ eqb (goOf u .refusal) 0 ∷ false ∷ false ∷ false ∷ false ∷ false ∷ []))
+    × (renewsInAll [] u ≡ false)
+    × (map (λ (x : Call). cyclesIn x u) (load file ∷ go ∷ row false ∷ register i ∷ drained ∷ []) ≡ (0 ∷ 0 ∷ 0 ∷ 0 ∷ 0 ∷ []))
+what-renews u file room k i = (refl, refl, refl)
+
 -- every call leaves a well-made unit well made, and so are all units that calls make of a fresh one
 pub kept-well-made : (x : Call) (u : Unit) → wellMadeOf u ≡ true → wellMadeOf (unitAfter x u) ≡ true
 kept-well-made x u w = well-made-after u w x
 
 pub reached-well-made : (calls : List Call) → wellMadeOf (unitAfterAll calls freshOf) ≡ true
-reached-well-made calls = onwards calls freshOf (fresh-drained .1)
-  where
-    onwards : (calls : List Call) (u : Unit) → wellMadeOf u ≡ true → wellMadeOf (unitAfterAll calls u) ≡ true
-    onwards [] u w = w
-    onwards (x ∷ calls) u w = onwards calls (unitAfter x u) (kept-well-made x u w)
+reached-well-made calls = kept-made calls freshOf (fresh-drained .1)
 
--- "Only an accepted load or a cycle alters the registers": a go leaves them, and the program, and any other call in which no cycle is made leaves the whole unit
+-- "Only an accepted load or a cycle alters the registers": a go leaves them, and the program; and any call in which no cycle is made leaves the whole unit, but a go and a load that
+-- are accepted
 pub go-keeps : (u : Unit) → (goOf u .unit .registers ≡ u .registers) × (goOf u .unit .program ≡ u .program)
 unfolding goOf
 go-keeps u = each Kept _ _ ((refl, refl), tt) (refl, refl)
@@ -175,9 +185,9 @@ go-keeps u = each Kept _ _ ((refl, refl), tt) (refl, refl)
     Kept : Gone → Type 0
     Kept a = (a .unit .registers ≡ u .registers) × (a .unit .program ≡ u .program)
 
-pub others-keep : (x : Call) (u : Unit) → begins x u ≡ false → cyclesIn x u ≡ 0 → unitAfter x u ≡ u
+pub others-keep : (x : Call) (u : Unit) → renews x u ≡ false → cyclesIn x u ≡ 0 → unitAfter x u ≡ u
 others-keep (load file) u none m = load-refused file u (eqb-false (loadOf file u .refusal) 0 none)
-others-keep go u none m = absurd (true≢false none)
+others-keep go u none m = go-refused u (eqb-false (goOf u .refusal) 0 none)
 others-keep cycle u none m = cycle-keeps u m
 others-keep (row true) u none m = cycle-keeps u m
 others-keep (row false) u none m = refl

@@ -9,7 +9,7 @@ use Rattle.unit_rules.specs.declared.Instruction.{Instruction}
 use Rattle.unit_rules.proofs.Positions.{Placed, placed-cycle, placed-cycles, drained-is, cycles-program, cycles-number, cycles-gone}
 
 -- "n is at most 64, its n words are below 2^25, the cycle number c is at most n+3 (0 when n is 0), the count is the smaller of c and n, and the latches
--- hold instructions c-1, c-2 and c-3, or nothing outside 0 .. n-1"; "loaded and not gone" it is at cycle 0, which puts the count at zero and leaves the latches empty
+-- hold instructions c-1, c-2 and c-3, or nothing outside 0 .. n-1"; in the state "loaded and not gone" the cycle is 0, so that the count is zero and the latches are empty
 pub record WellMade (u : Unit) : Type 0 where
   pub few : u .program .n .0 ≤ 64
   pub good : u .program .n .0 ≤ firstBad (linesOf (u .program))

@@ -51,7 +51,7 @@ abbrev pub registersSet : ℕ → List Register → List Register → List Regis
 registersSet zero file f = f
 registersSet (suc i) file f = set (registersSet i file f) i (getD file i zeroRegister)
 
--- "load checks the file, sets program and registers and puts count and cycle to zero"
+-- "load .. sets program and registers and puts count and cycle to zero": the state is "loaded and not gone", in which "the latches [are] empty"
 abbrev pub loadedOf : Job → Unit → Unit
 loadedOf job u = begunOf false (job .program) (registersSet (job .r) (job .registers) (u .registers))
 
@@ -70,7 +70,7 @@ loadOf file u =
 
 -- ---- go
 
--- "go empties the latches and sets count and cycle to zero"
+-- "go empties the latches and sets count and cycle to zero": from then on the unit has gone
 abbrev pub goneOf : Unit → Unit
 goneOf u = begunOf true (u .program) (u .registers)
 

@@ -35,10 +35,10 @@ isEmpty (IF/ID.Holds i) = false
 abbrev pub allEmpty : IfId → IfId → IfId → Bool
 allEmpty fetched decoded executed = isEmpty fetched && isEmpty decoded && isEmpty executed
 
--- "A loaded unit that has not gone counts as drained." Once it has, it is "when the count has reached n and all latches are empty".
+-- "A loaded unit that has not gone counts as drained." Once it has gone, "The unit is drained when the count has reached n and all latches are empty."
 unfoldable pub drainedOf : Unit → Bool
 drainedOf u =
-    not (u .gone) || leb (u .program .n .0) (u .count .0) && allEmpty (u .fetched) (inDecoded (u .decoded)) (inExecuted (u .executed))
+    not (u .gone) || (leb (u .program .n .0) (u .count .0) && allEmpty (u .fetched) (inDecoded (u .decoded)) (inExecuted (u .executed)))
 
 -- "n+3 (0 when n is 0)"
 abbrev pub lastOf : ℕ → ℕ
@@ -76,14 +76,15 @@ abbrev pub latchesMade : Program → ℕ → IfId → IfId → IfId → Bool
 latchesMade program c fetched decoded executed =
     sameHeld fetched (fetchedIn program c) && sameHeld decoded (fetchedIn program (c - 1)) && sameHeld executed (fetchedIn program (c - 2))
 
+-- these four, of a unit that has gone
+abbrev pub runMade : Program → ℕ → ℕ → IfId → IfId → IfId → Bool
+runMade program count c fetched decoded executed = numbersMade (program .n .0) count c && latchesMade program c fetched decoded executed
+
 -- "the state loaded and not gone, in which count and cycle are zero and the latches empty"
 abbrev pub restMade : ℕ → ℕ → IfId → IfId → IfId → Bool
 restMade count c fetched decoded executed = eqb count 0 && eqb c 0 && allEmpty fetched decoded executed
 
--- a unit that has gone, by its program, count, cycle number and latches
-abbrev pub runMade : Program → ℕ → ℕ → IfId → IfId → IfId → Bool
-runMade program count c fetched decoded executed = numbersMade (program .n .0) count c && latchesMade program c fetched decoded executed
-
+-- "A record is well made when ..", in either state
 unfoldable pub wellMadeOf : Unit → Bool
 wellMadeOf u =
     programMade (u .program)

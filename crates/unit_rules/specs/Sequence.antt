@@ -1,4 +1,4 @@
--- Calls one after another: what they leave of a unit, and how many cycles are made in them.
+-- Calls one after another: what they leave of a unit, how many cycles are made in them, and whether there is a go or a load among them that is accepted.
 -- Assumes nothing.
 use Prim.Native.Nat.{ℕ, zero, suc, _+_}
 use mathlib.Core.Path.{_≡_}
@@ -49,17 +49,17 @@ cyclesIn (run k) u = ranOf u k .made
 cyclesIn (register i) u = 0
 cyclesIn drained u = 0
 
--- whether a call is a go or an accepted load
-abbrev pub begins : Call → Unit → Bool
-begins (load file) u = eqb (loadOf file u .refusal) 0
-begins go u = true
-begins cycle u = false
-begins (row room) u = false
-begins (run k) u = false
-begins (register i) u = false
-begins drained u = false
+-- whether a call is a go or a load and is accepted: what demand 3 says "counts from the last go" and "holds until the next go or load"
+abbrev pub renews : Call → Unit → Bool
+renews (load file) u = eqb (loadOf file u .refusal) 0
+renews go u = eqb (goOf u .refusal) 0
+renews cycle u = false
+renews (row room) u = false
+renews (run k) u = false
+renews (register i) u = false
+renews drained u = false
 
--- the same of calls one after another: the unit after them, the cycles made in them, and whether there is a go or an accepted load among them
+-- the same of calls one after another: the unit after them, the cycles made in them, and whether there is such a go or load among them
 abbrev pub unitAfterAll : List Call → Unit → Unit
 unitAfterAll [] u = u
 unitAfterAll (x ∷ calls) u = unitAfterAll calls (unitAfter x u)
@@ -68,6 +68,6 @@ abbrev pub cyclesInAll : List Call → Unit → ℕ
 cyclesInAll [] u = 0
 cyclesInAll (x ∷ calls) u = cyclesIn x u + cyclesInAll calls (unitAfter x u)
 
-abbrev pub beginsInAll : List Call → Unit → Bool
-beginsInAll [] u = false
-beginsInAll (x ∷ calls) u = begins x u || beginsInAll calls (unitAfter x u)
+abbrev pub renewsInAll : List Call → Unit → Bool
+renewsInAll [] u = false
+renewsInAll (x ∷ calls) u = renews x u || renewsInAll calls (unitAfter x u)

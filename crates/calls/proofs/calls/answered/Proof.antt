@@ -6,8 +6,8 @@ use lib.Seq.{length-take-le}
 use Rattle.script.proofs.Bytes.{next-within}
 use Rattle.calls.proofs.calls.answered as this
 
-slice-aggregate-made : this.Tie.Need-slice-aggregate-made
-slice-aggregate-made c =
+slice-aggregate-make-by : this.Tie.Need-slice-aggregate-make-by
+slice-aggregate-make-by c =
     let name = c .before .before in
     let within = next-within 32 0 (name .before .before .args .line .now) (omega arith) in
     sym (length-take-le _ _ (omega (arith, name .word-end .ensures)))
@@ -15,5 +15,5 @@ slice-aggregate-made c =
 pub answered-spec : {M : Type 1} → this.Statement.statement M
 answered-spec =
     this.Tie.close
-    (this.Tie.spec (λ c κs. search needs) (λ c κs. search needs) slice-aggregate-made (λ c. search needs) (λ c. search needs) (λ c. search needs) (λ c κs. search needs)
+    (this.Tie.spec (λ c κs. search needs) (λ c κs. search needs) slice-aggregate-make-by (λ c. search needs) (λ c. search needs) (λ c. search needs) (λ c κs. search needs)
     (λ c. search needs))
