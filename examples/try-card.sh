@@ -552,6 +552,15 @@ for program in trace traces; do
         gives 0; prints "$TRY/expected"
         end
     done
+
+    begin "the real $program on a job that is refused and on one that is missing"
+    named=''
+    [ "$program" = trace ] || named="$TRY/job\n"
+    run ./card "$program" "$TRY/job"
+    gives 1; out_is "${named}REFUSED 1\n"; err_is ''
+    run ./card "$program" "$TRY/missing.job"
+    gives 2; err_has "$TRY/missing.job"
+    end
 done
 
 if is_there calls examples/calls.txt; then

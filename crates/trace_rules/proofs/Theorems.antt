@@ -1,10 +1,10 @@
 -- For the reader of specs/: what a row says is what happened. Carried by where the latches are (`Positions` of `unit_rules`) and by the cases of a latch.
 -- Assumes nothing.
 use Rattle.unit_rules.proofs.Shared.{ℕ, zero, suc, _+_, _-_, _<_, _≤_, _≡_, refl, sym, ap, subst, _∙_, _⊎_, ⊎-elim, Bool, true, false, cond, _&&_}
-use Rattle.unit_rules.proofs.Shared.{and-false, List, map, arith, leb-false, lt-ltb, lt-leb, le-leb, ltb-true, ltb-false, eqb, leb, ltb, length, take, STATE, DRAINED, ROOM, Register, Pointer, Target, None, isLi}
+use Rattle.unit_rules.proofs.Shared.{and-false, List, map, arith, leb-false, lt-ltb, lt-leb, le-leb, ltb-true, ltb-false, leb, ltb, length, take, STATE, DRAINED, ROOM, Register, Pointer, Target, None, isLi}
 use Rattle.unit_rules.proofs.Shared.{rdOf, firstOf, rs2Of, rs3Of, Operation, operationOf, readsOf, takesSecond, takesThird, isNop, targetOf, stored}
 use Rattle.unit_rules.proofs.Shared.{plain, linesOf, instructionOf, instructionAt, fetchedIn, isTarget, afterWB, cycleOf, inDecoded}
-use Rattle.unit_rules.proofs.Shared.{inExecuted, decodedWith, lastOf, drainedOf, wellMadeOf, goOf, cycledOf, Whole, afterCalls, unitAfter, cyclesIn}
+use Rattle.unit_rules.proofs.Shared.{inExecuted, decodedWith, lastOf, drainedOf, wellMadeOf, goOf, cycledOf, Whole, afterCalls, unitAfter, madeUnless, cyclesIn}
 use Rattle.table.specs.declared.Target.the-variants.{To as ToRegister}
 use Rattle.table.specs.Operation.{multiplyRow, shortRows}
 use Rattle.table.proofs.Rows.{each-choice}
@@ -218,11 +218,11 @@ module _ (u : Unit) (start : ℕ) (buffer : List ℕ) where
   room = leb (start + rowSize) (length buffer)
 
   abbrev AsCall : Cycled → Bool → Type 0
-  AsCall a t = (a .unit ≡ unitAfter (row t) u) × (_≡_ {A = ℕ} (cond (eqb (a .refusal) 0) 1 0) (cyclesIn (row t) u))
+  AsCall a t = (a .unit ≡ unitAfter (row t) u) × (madeUnless (a .refusal) ≡ cyclesIn (row t) u)
 
   -- where the cycle without a row is refused too, there is none with room and none without
-  as-refused : (a : Cycled) → _≡_ {A = ℕ} (cond (eqb (a .refusal) 0) 1 0) 0 → a .unit ≡ u → cycledOf u ≡ a → (t : Bool) → AsCall a t
-  as-refused a none kept e true = (ap (λ (x : Cycled). x .unit) (sym e), ap (λ (x : Cycled). cond (eqb (x .refusal) 0) 1 0) (sym e))
+  as-refused : (a : Cycled) → madeUnless (a .refusal) ≡ 0 → a .unit ≡ u → cycledOf u ≡ a → (t : Bool) → AsCall a t
+  as-refused a none kept e true = (ap (λ (x : Cycled). x .unit) (sym e), ap (λ (x : Cycled). madeUnless (x .refusal)) (sym e))
   as-refused a none kept e false = (kept, none)
 
   pub row-is-a-call : AsCall (tracedOf u start buffer .0) room
@@ -240,7 +240,7 @@ module _ (u : Unit) (start : ℕ) (buffer : List ℕ) where
           → AsCall (record { refusal = 0; unit = cycleOf u }) room
       with-room long e =
           subst (AsCall (record { refusal = 0; unit = cycleOf u })) (sym (le-leb (start + rowSize) (length buffer) (ltb-false (length buffer) (start + rowSize) long)))
-          (ap (λ (x : Cycled). x .unit) e, ap (λ (x : Cycled). cond (eqb (x .refusal) 0) 1 0) e)
+          (ap (λ (x : Cycled). x .unit) e, ap (λ (x : Cycled). madeUnless (x .refusal)) e)
 
 -- ---- from a go
 

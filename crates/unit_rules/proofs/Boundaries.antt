@@ -1,10 +1,11 @@
--- A well-made record in either state, a load while a unit runs, and a register's number at their boundaries: what is just taken, and what is just not; and that 10 is
--- tested first. Carried by computing the tests.
+-- A well-made record in either state, a load while a unit runs, and a register's number at their boundaries: what is just taken, and what is just not; that 10 is
+-- tested first; and which calls end what demand 3 says. Carried by computing the tests.
 -- Assumes nothing.
 use mathlib.Core.Path.{_≡_, refl}
 use mathlib.Core.Bool.{Bool, true, false}
 use Prim.Native.Nat.{ℕ, _+_}
 use mathlib.Core.List.{List, [], _∷_, map}
+use lib.Dec.{eqb}
 use lib.ListN.{length, replicate}
 use Rattle.register.specs.declared.Register.{Register}
 use Rattle.register.specs.Layout.{zeroRegister}
@@ -22,6 +23,8 @@ use Rattle.unit_rules.specs.declared.Unit.{Unit}
 use Rattle.unit_rules.specs.Cycle.{instructionOf, cycleOf, cyclesOf}
 use Rattle.unit_rules.specs.Record.{programMade, numbersMade, drainedOf, wellMadeOf}
 use Rattle.unit_rules.specs.Stages.{inFlightOf, unitWith}
+use Rattle.unit_rules.specs.Sequence.{Call, cyclesIn, renews, renewsInAll}
+use Rattle.unit_rules.specs.Sequence.Call.{load, go, cycle, row, run, register, drained}
 use Rattle.unit_rules.specs.Calls.{begunOf, freshOf, loadOf, goOf, cycledOf, goesOn, ranOf, registerOf, askedDrained}
 
 -- a program of these lines
@@ -48,13 +51,21 @@ pub drained-unit : (cycledOf freshOf .refusal ∷ ranOf freshOf 1 .refusal ∷ r
 unfolding cycledOf ranOf goesOn decided wellMadeOf drainedOf firstBad
 drained-unit = refl
 
+-- a go and a load that are accepted, no other call, and so no calls at all, end what demand 3 says of the last go; and no cycle is made in these and in the calls that ask
+pub what-renews : (u : Unit) (file : List ℕ) (room : Bool) (k i : ℕ)
+    → (map (λ (x : Call). renews x u) (load file ∷ go ∷ cycle ∷ row room ∷ run k ∷ register i ∷ drained ∷ [])
+    ≡ (eqb (loadOf file u .refusal) 0 ∷ eqb (goOf u .refusal) 0 ∷ false ∷ false ∷ false ∷ false ∷ false ∷ []))
+    × (renewsInAll [] u ≡ false)
+    × (map (λ (x : Call). cyclesIn x u) (load file ∷ go ∷ row false ∷ register i ∷ drained ∷ []) ≡ (0 ∷ 0 ∷ 0 ∷ 0 ∷ 0 ∷ []))
+what-renews u file room k i = (refl, refl, refl)
+
 -- a program of one line on a unit that has gone or not, and that unit but for its cycle number, its count, or what stands in IF/ID
 abbrev oneLine : Bool → Unit
 oneLine gone = begunOf gone (lines (0 ∷ [])) (replicate 32 zeroRegister)
 
 abbrev butFor : Bool → ℕ → ℕ → IfId → Unit
-butFor gone cycle count fetched =
-    unitWith (oneLine gone) cycle (replicate 32 zeroRegister) (record { count = record { 0 = count }; fetched = fetched; decoded = ID/EX.Empty; executed = EX/WB.Empty })
+butFor gone c count fetched =
+    unitWith (oneLine gone) c (replicate 32 zeroRegister) (record { count = record { 0 = count }; fetched = fetched; decoded = ID/EX.Empty; executed = EX/WB.Empty })
 
 -- "loaded and not gone, in which count and cycle are zero and the latches empty": as it is loaded, at cycle 1, at count 1, with an instruction, and with all that cycle 1 has
 pub resting : map wellMadeOf

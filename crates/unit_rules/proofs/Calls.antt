@@ -1,10 +1,10 @@
 -- Calls on a well-made unit: those of `cycle` that follow a go are cycles, and so are any calls until the next go or accepted load; a unit that has not gone rests; every call
 -- leaves a well-made record. Carried by `drained-after` and `goes-on`.
 -- Assumes nothing.
-use Rattle.unit_rules.proofs.Shared.{ℕ, zero, suc, _+_, _-_, _≤_, _<_, min, _≡_, refl, sym, ap, subst, _∙_, Bool, true, false, cond, List, []}
+use Rattle.unit_rules.proofs.Shared.{ℕ, zero, suc, _+_, _-_, _≤_, _<_, min, _≡_, refl, sym, ap, _∙_, Bool, true, false, List, []}
 use Rattle.unit_rules.proofs.Shared.{_∷_, add-zero, arith, eqb-true, eqb-false, lt-leb, le-leb, leb-true, leb-false, eqb, leb, DRAINED}
-use Rattle.unit_rules.proofs.Shared.{instructionsAt, readOf, Unit, Cycled, Ran, cyclesOf, drainedOf, wellMadeOf, lastOf, goneOf, loadedOf, loadOf, goOf, cycledOf}
-use Rattle.unit_rules.proofs.Shared.{ranOf, goesOn, afterCalls, Call, unitAfter, cyclesIn, renews, unitAfterAll, cyclesInAll, renewsInAll}
+use Rattle.unit_rules.proofs.Shared.{instructionsAt, readOf, Unit, Cycled, Ran, cyclesOf, drainedOf, wellMadeOf, lastOf, loadOf, goOf, cycledOf}
+use Rattle.unit_rules.proofs.Shared.{ranOf, goesOn, afterCalls, Call, unitAfter, madeUnless, cyclesIn, renews, unitAfterAll, cyclesInAll, renewsInAll}
 use Rattle.table.proofs.Decided.{stops, passes, ends, not-denied, neither-held}
 use Rattle.unit_rules.specs.declared.Loaded.{Loaded}
 use Rattle.unit_rules.specs.declared.Gone.{Gone}
@@ -84,8 +84,8 @@ module _ (u : Unit) (went : u .gone ≡ true) (w : WellMade u) where
   made-by-cycle : (c : ℕ) → u .cycle + c ≤ lastOf (u .program .n .0) → Made cycle c
   made-by-cycle c h = case (leb (lastOf (u .program .n .0)) (u .cycle + c)) refl
     where
-      counted : {a : Cycled} → cycledOf (cyclesOf c u) ≡ a → cyclesIn cycle (cyclesOf c u) ≡ cond (eqb (a .refusal) 0) 1 0
-      counted e = ap (λ (a : Cycled). cond (eqb (a .refusal) 0) 1 0) e
+      counted : {a : Cycled} → cycledOf (cyclesOf c u) ≡ a → cyclesIn cycle (cyclesOf c u) ≡ madeUnless (a .refusal)
+      counted e = ap (λ (a : Cycled). madeUnless (a .refusal)) e
 
       case : (t : Bool) → leb (lastOf (u .program .n .0)) (u .cycle + c) ≡ t → Made cycle c
       case true q =

@@ -2,10 +2,10 @@
 -- promise (specs/Calls.antt), one after another (specs/Sequence.antt). A unit's file of registers is 32 long (`Whole`), as `[Register; 32]` is.
 -- Assumes nothing.
 use Rattle.unit_rules.proofs.Shared.{ℕ, _+_, _-_, _≤_, _<_, min, _≡_, refl, sym, ap, subst, _∙_, _↔_, Bool, true, false, cond, List, map, zero-add}
-use Rattle.unit_rules.proofs.Shared.{le-refl, arith, eq-eqb, eqb-true, leb-true, leb-false, le-leb, eqb, leb, getD, take, length, take-all}
+use Rattle.unit_rules.proofs.Shared.{le-refl, arith, eqb-true, leb-true, leb-false, eqb, leb, getD, take, length, take-all}
 use Rattle.unit_rules.proofs.Shared.{length-take-le, Register, zeroRegister, rowOf, DRAINED, STATE, BUSY, plain, plainRows, registers-as-rows, Job}
-use Rattle.unit_rules.proofs.Shared.{instructionsAt, readOf, Program, linesOf, Unit, fetchedIn, Cycled, Ran, cyclesOf, inDecoded, inExecuted, drainedOf, lastOf}
-use Rattle.unit_rules.proofs.Shared.{wellMadeOf, begunOf, goneOf, registersSet, loadedOf, loadedBy, loadOf, goOf, cycledOf, ranOf, askedDrained, Whole, afterCalls}
+use Rattle.unit_rules.proofs.Shared.{instructionsAt, readOf, Program, linesOf, Unit, fetchedIn, Cycled, cyclesOf, inDecoded, inExecuted, drainedOf, lastOf}
+use Rattle.unit_rules.proofs.Shared.{wellMadeOf, begunOf, goneOf, registersSet, loadOf, goOf, cycledOf, ranOf, askedDrained, Whole, afterCalls}
 use Rattle.unit_rules.proofs.Shared.{Call, unitAfterAll, cyclesInAll, renewsInAll, unitWith}
 use Rattle.plain_rules.specs.Answer.{answerOf, executeAllOf}
 use Rattle.plain_rules.proofs.Refusals.{executed}
@@ -18,7 +18,7 @@ use Rattle.unit_rules.specs.Settled.{settledFlight}
 use Rattle.unit_rules.proofs.Positions.{drained-after, drained-loaded, cycles-program, cycles-number, cycles-gone}
 use Rattle.unit_rules.proofs.Settled.{id-told, ex-told}
 use Rattle.unit_rules.proofs.WellMade.{WellMade, well-made-says, well-made-test, well-made-cycles, cycles-join, leftOf}
-use Rattle.unit_rules.proofs.Loading.{Sound, sound-read, load-ill-made, load-busy, load-reads, Taken, load-taken, load-sets, load-refused, go-begins, go-ill-made, left-as-they-were, set-whole, set-from-file, loaded-made, plain-whole, well-made-gone, enough-words, unit-gone}
+use Rattle.unit_rules.proofs.Loading.{Sound, sound-read, load-ill-made, load-busy, load-reads, load-taken, load-sets, load-refused, go-begins, go-ill-made, left-as-they-were, set-whole, set-from-file, loaded-made, plain-whole, well-made-gone, enough-words, unit-gone}
 use Rattle.unit_rules.proofs.Calls.{next-call, no-call, calls-are-cycles, ran, cycle-of-drained, run-of-drained, rests-on, all-made, well-made-after, kept-made}
 
 -- ---- a go

@@ -1,19 +1,18 @@
 -- What a load and a go make of a unit: how each test came out, the registers that a load sets, and that the records are well made. Carried by the laws of decisions, and by
 -- what the reader's tests leave known of an accepted file.
 -- Assumes nothing.
-use Rattle.unit_rules.proofs.Shared.{ℕ, zero, suc, _+_, _-_, _≤_, _<_, _≡_, refl, sym, ap, subst, _∙_, Bool, true, false, cond, List, [], _∷_}
+use Rattle.unit_rules.proofs.Shared.{ℕ, zero, suc, _-_, _≤_, _<_, _≡_, refl, sym, ap, subst, _∙_, Bool, true, false, cond, List, [], _∷_}
 use Rattle.unit_rules.proofs.Shared.{arith, not-false, length-take, _^_, eq-eqb, ne-eqb, eqb-true, eqb-false, eqb, ltb, getD, set, drop, length, length-set, length-append}
-use Rattle.unit_rules.proofs.Shared.{length-replicate, take-append-seam, length-take-le, getD-set-same, getD-set-other, Register, zeroRegister, wordAt, ofBytes}
+use Rattle.unit_rules.proofs.Shared.{length-replicate, take-append-seam, getD-set-same, getD-set-other, Register, zeroRegister, wordAt, ofBytes}
 use Rattle.unit_rules.proofs.Shared.{STATE, BUSY, targetOf, firstBad, stepOn, plainOn, step, plain, take, Job, ReadJob, instructionsAt, twoAt, registersAt, wordsIn, registersOf, filled, jobOf}
-use Rattle.unit_rules.proofs.Shared.{readOf, Program, linesOf, Unit, cyclesOf, drainedOf, wellMadeOf, registersSet, loadedOf, loadedBy, loadOf, goneOf, goOf}
+use Rattle.unit_rules.proofs.Shared.{readOf, linesOf, Unit, cyclesOf, drainedOf, wellMadeOf, registersSet, loadedOf, loadedBy, loadOf, goneOf, goOf}
 use Rattle.unit_rules.proofs.Shared.{unitWith, Whole}
 use Rattle.table.proofs.Decided.{stops, passes, ends, each, none-refused, denied, not-denied}
 use Rattle.job_rules.proofs.Pieces.{length-pieces}
 use Rattle.job_rules.proofs.Refusals.{accepted, read}
 use Rattle.unit_rules.specs.declared.Loaded.{Loaded}
-use Rattle.unit_rules.specs.declared.Gone.{Gone}
 use Rattle.unit_rules.specs.Settled.{settledFlight}
-use Rattle.unit_rules.proofs.WellMade.{WellMade, well-made-says, well-made-begun}
+use Rattle.unit_rules.proofs.WellMade.{WellMade, well-made-begun}
 use Rattle.unit_rules.proofs.AsPipeline.{stored-whole}
 use Rattle.unit_rules.proofs.Settled.{unit-after}
 

@@ -161,9 +161,12 @@ pub drained-loaded : (u : Unit) → u .gone ≡ false → drainedOf u ≡ true
 unfolding drainedOf
 drained-loaded u still = rw still
 
-pub not-drained-gone : (u : Unit) → drainedOf u ≡ false → u .gone ≡ true
-not-drained-gone u h = go (u .gone) refl
+pub gone-unless : (u : Unit) → (u .gone ≡ false → ⊥) → u .gone ≡ true
+gone-unless u h = go (u .gone) refl
   where
     go : (t : Bool) → u .gone ≡ t → t ≡ true
     go true q = refl
-    go false q = absurd (false≢true (sym h ∙ drained-loaded u q))
+    go false q = absurd (h q)
+
+pub not-drained-gone : (u : Unit) → drainedOf u ≡ false → u .gone ≡ true
+not-drained-gone u h = gone-unless u (λ still. false≢true (sym h ∙ drained-loaded u still))

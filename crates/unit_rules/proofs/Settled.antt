@@ -171,11 +171,11 @@ gone-settled u =
     λ i. record { count = record { 0 = none i }; fetched = IF/ID.Empty; decoded = ID/EX.Empty; executed = EX/WB.Empty }
 
 -- before cycle 2, since no value has been latched
-nothing-decoded : (y : IdEx) → inDecoded y ≡ IF/ID.Empty → y ≡ ID/EX.Empty
+pub nothing-decoded : (y : IdEx) → inDecoded y ≡ IF/ID.Empty → y ≡ ID/EX.Empty
 nothing-decoded ID/EX.Empty e = refl
 nothing-decoded (ID/EX.Holds i o) e = absurd (false≢true (ap isEmpty e))
 
-nothing-executed : (x : ExWb) → inExecuted x ≡ IF/ID.Empty → x ≡ EX/WB.Empty
+pub nothing-executed : (x : ExWb) → inExecuted x ≡ IF/ID.Empty → x ≡ EX/WB.Empty
 nothing-executed EX/WB.Empty e = refl
 nothing-executed (EX/WB.Holds i o) e = absurd (false≢true (ap isEmpty e))
 

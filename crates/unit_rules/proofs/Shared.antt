@@ -43,7 +43,7 @@ pub use Rattle.unit_rules.specs.Cycle.{instructionAt, given, countAfter,
 unfoldable pub use Rattle.unit_rules.specs.Cycle.{cycleOf, cyclesOf}
 pub use Rattle.unit_rules.specs.Calls.{goneOf, registersSet, loadedOf, loadedBy, freshOf, begunOf}
 unfoldable pub use Rattle.unit_rules.specs.Calls.{loadOf, goOf, cycledOf, ranOf, registerOf, askedDrained, goesOn}
-pub use Rattle.unit_rules.specs.Sequence.{Whole, afterCalls, Call, unitAfter, cyclesIn, renews, unitAfterAll, cyclesInAll, renewsInAll}
+pub use Rattle.unit_rules.specs.Sequence.{Whole, afterCalls, Call, unitAfter, madeUnless, cyclesIn, renews, unitAfterAll, cyclesInAll, renewsInAll}
 pub use Rattle.unit_rules.specs.declared.Cycled.{Cycled}
 pub use Rattle.unit_rules.specs.declared.Ran.{Ran}
 pub use Rattle.unit_rules.specs.Record.{lastOf, inDecoded, inExecuted, isEmpty, sameTarget, sameInstruction, sameHeld, numbersMade}

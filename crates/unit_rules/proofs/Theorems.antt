@@ -1,11 +1,11 @@
 -- For the reader of specs/: what the test of a record says in either state, that every call leaves a well-made record and refuses with 10 one that is not, what leaves the registers
 -- as they are, and where a register's number ends.
 -- Assumes nothing.
-use Rattle.unit_rules.proofs.Shared.{ℕ, zero, suc, _+_, _≤_, _<_, _≡_, refl, sym, ap, subst, _∙_, _↔_, Bool, true, false, cond, not, _&&_, _||_, false≢true, List, [], _∷_, map}
-use Rattle.unit_rules.proofs.Shared.{arith, lt-ltb, le-ltb, leb-true, le-leb, eq-eqb, eqb-true, eqb-false, leb, eqb, getD, length-replicate, Register, zeroRegister, STATE, DRAINED}
-use Rattle.unit_rules.proofs.Shared.{firstBad, linesOf, IfId, IdEx, ExWb, Unit, Whole, inDecoded, inExecuted, isEmpty, allEmpty, programMade, restMade, cycleOf}
+use Rattle.unit_rules.proofs.Shared.{ℕ, zero, suc, _+_, _≤_, _<_, _≡_, refl, sym, ap, subst, _∙_, _↔_, Bool, true, false, cond, not, _&&_, _||_, List}
+use Rattle.unit_rules.proofs.Shared.{arith, lt-ltb, le-ltb, leb-true, le-leb, eq-eqb, eqb-false, leb, eqb, getD, length-replicate, Register, zeroRegister, STATE, DRAINED}
+use Rattle.unit_rules.proofs.Shared.{firstBad, linesOf, Unit, Whole, inDecoded, inExecuted, isEmpty, allEmpty, cycleOf}
 use Rattle.unit_rules.proofs.Shared.{Cycled, Ran, drainedOf, wellMadeOf, freshOf, loadOf, goOf, cycledOf, goesOn, ranOf, registerOf, askedDrained}
-use Rattle.unit_rules.proofs.Shared.{Call, unitAfter, cyclesIn, renews, unitAfterAll, renewsInAll}
+use Rattle.unit_rules.proofs.Shared.{Call, unitAfter, madeUnless, cyclesIn, renews, unitAfterAll}
 use Rattle.unit_rules.proofs.Shared.IF/ID
 use Rattle.unit_rules.proofs.Shared.ID/EX
 use Rattle.unit_rules.proofs.Shared.EX/WB
@@ -18,6 +18,7 @@ use Rattle.unit_rules.specs.declared.Drained.{Drained}
 use Rattle.unit_rules.specs.Sequence.Call.{load, go, cycle, row, run, register, drained}
 use Rattle.table.proofs.Rows.{all-alike}
 use Rattle.unit_rules.proofs.Positions.{drained-loaded}
+use Rattle.unit_rules.proofs.Settled.{nothing-decoded, nothing-executed}
 use Rattle.unit_rules.proofs.WellMade.{WellMade, well-made-says, well-made-test, rest-test, both, empty-held}
 use Rattle.unit_rules.proofs.Loading.{load-ill-made, load-refused, go-ill-made}
 use Rattle.unit_rules.proofs.Calls.{cycle-of-drained, run-of-drained, well-made-after, kept-made}
@@ -51,15 +52,6 @@ fresh-registers = (
   λ i h. register-to-31 freshOf i (fresh-drained .1) h ∙ ap (λ (v : Register). record { refusal = 0; register = v }) (all-alike zeroRegister 32 i),
 )
 
--- a latch that is empty, whatever it could hold
-empty-decoded : (x : IdEx) → isEmpty (inDecoded x) ≡ true → x ≡ ID/EX.Empty
-empty-decoded ID/EX.Empty e = refl
-empty-decoded (ID/EX.Holds i o) e = absurd (false≢true e)
-
-empty-executed : (x : ExWb) → isEmpty (inExecuted x) ≡ true → x ≡ EX/WB.Empty
-empty-executed EX/WB.Empty e = refl
-empty-executed (EX/WB.Holds i o) e = absurd (false≢true e)
-
 abbrev NothingHeld : Unit → Type 0
 NothingHeld u = (u .fetched ≡ IF/ID.Empty) × (u .decoded ≡ ID/EX.Empty) × (u .executed ≡ EX/WB.Empty)
 
@@ -68,7 +60,7 @@ nothing-held u = (
   λ e.
       let a = both _ (isEmpty (inExecuted (u .executed))) e in
       let b = both (isEmpty (u .fetched)) (isEmpty (inDecoded (u .decoded))) (a .0) in
-      (empty-held (u .fetched) (b .0), empty-decoded (u .decoded) (b .1), empty-executed (u .executed) (a .1)),
+      (empty-held _ (b .0), nothing-decoded (u .decoded) (empty-held _ (b .1)), nothing-executed (u .executed) (empty-held _ (a .1))),
   λ h. rw (h .0, h .1, h .2),
 )
 
@@ -139,7 +131,7 @@ run-refused u k = each Kept _ _ (λ h. refl, tt) (λ h. absurd (h refl))
 
 -- a cycle that is not made, and a run of none, leave the unit
 cycle-keeps : (u : Unit) → cyclesIn cycle u ≡ 0 → cycledOf u .unit ≡ u
-cycle-keeps u m = cycle-refused u (λ e. absurd (one-not-none (sym (ap (λ (t : Bool). cond {A = ℕ} t 1 0) (eq-eqb (cycledOf u .refusal) 0 e)) ∙ m)))
+cycle-keeps u m = cycle-refused u (λ e. absurd (one-not-none (sym (ap madeUnless e) ∙ m)))
   where
     one-not-none : _≡_ {A = ℕ} 1 0 → ⊥
     one-not-none e = omega arith
@@ -160,14 +152,6 @@ run-keeps u k = each Kept _ _ (λ h. refl, tt) (none-gone k u)
   where
     Kept : Ran → Type 0
     Kept a = a .made ≡ 0 → a .unit ≡ u
-
--- a go and a load that are accepted, no other call, and so no calls at all, end what demand 3 says of the last go; and no cycle is made in these and in the calls that ask
-pub what-renews : (u : Unit) (file : List ℕ) (room : Bool) (k i : ℕ)
-    → (map (λ (x : Call). renews x u) (load file ∷ go ∷ cycle ∷ row room ∷ run k ∷ register i ∷ drained ∷ [])
-    ≡ (eqb (loadOf file u .refusal) 0 ∷ eqb (goOf u .refusal) 0 ∷ false ∷ false ∷ false ∷ false ∷ false ∷ []))
-    × (renewsInAll [] u ≡ false)
-    × (map (λ (x : Call). cyclesIn x u) (load file ∷ go ∷ row false ∷ register i ∷ drained ∷ []) ≡ (0 ∷ 0 ∷ 0 ∷ 0 ∷ 0 ∷ []))
-what-renews u file room k i = (refl, refl, refl)
 
 -- every call leaves a well-made unit well made, and so are all units that calls make of a fresh one
 pub kept-well-made : (x : Call) (u : Unit) → wellMadeOf u ≡ true → wellMadeOf (unitAfter x u) ≡ true

@@ -6,7 +6,7 @@ use Rattle.unit_rules.proofs.Shared.{firstBad, List, Register, Program,
 use Rattle.unit_rules.proofs.Shared.{sameTarget, sameInstruction, sameHeld, programMade, numbersMade, runMade, restMade, wellMadeOf, begunOf, goesOn}
 use Rattle.unit_rules.proofs.Shared.IF/ID
 use Rattle.unit_rules.specs.declared.Instruction.{Instruction}
-use Rattle.unit_rules.proofs.Positions.{Placed, placed-cycle, placed-cycles, drained-is, cycles-program, cycles-number, cycles-gone}
+use Rattle.unit_rules.proofs.Positions.{Placed, placed-cycle, placed-cycles, drained-is, cycles-program, cycles-number, cycles-gone, gone-unless}
 
 -- "n is at most 64, its n words are below 2^25, the cycle number c is at most n+3 (0 when n is 0), the count is the smaller of c and n, and the latches
 -- hold instructions c-1, c-2 and c-3, or nothing outside 0 .. n-1"; in the state "loaded and not gone" the cycle is 0, so that the count is zero and the latches are empty
@@ -162,11 +162,7 @@ last-small u made = go (eqb (u .program .n .0) 0)
 
 -- a unit that has made a cycle has gone
 pub gone-later : (u : Unit) → WellMade u → 0 < u .cycle → u .gone ≡ true
-gone-later u w some = go (u .gone) refl
-  where
-    go : (t : Bool) → u .gone ≡ t → t ≡ true
-    go true q = refl
-    go false q = absurd (omega (arith, w .resting q))
+gone-later u w some = gone-unless u (λ still. omega (arith, w .resting still))
 
 -- ---- well made from a load and from a go on
 

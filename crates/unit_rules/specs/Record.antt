@@ -76,7 +76,7 @@ abbrev pub latchesMade : Program → ℕ → IfId → IfId → IfId → Bool
 latchesMade program c fetched decoded executed =
     sameHeld fetched (fetchedIn program c) && sameHeld decoded (fetchedIn program (c - 1)) && sameHeld executed (fetchedIn program (c - 2))
 
--- these four, of a unit that has gone
+-- of a unit that has gone: its count, its cycle number and its latches, as above
 abbrev pub runMade : Program → ℕ → ℕ → IfId → IfId → IfId → Bool
 runMade program count c fetched decoded executed = numbersMade (program .n .0) count c && latchesMade program c fetched decoded executed
 

@@ -2,7 +2,7 @@
 -- Assumes nothing.
 use Prim.Native.Nat.{ℕ, zero, suc, _+_}
 use mathlib.Core.Path.{_≡_}
-use mathlib.Core.Bool.{Bool, true, false, cond, _||_}
+use mathlib.Core.Bool.{Bool, false, cond, _||_}
 use mathlib.Core.List.{List, [], _∷_}
 use lib.Dec.{eqb}
 use lib.ListN.{length}
@@ -39,12 +39,16 @@ unitAfter (run k) u = ranOf u k .unit
 unitAfter (register i) u = u
 unitAfter drained u = u
 
+-- a call for one cycle makes it where it is not refused
+abbrev pub madeUnless : ℕ → ℕ
+madeUnless refusal = cond (eqb refusal 0) 1 0
+
 -- the cycles made in a call
 abbrev pub cyclesIn : Call → Unit → ℕ
 cyclesIn (load file) u = 0
 cyclesIn go u = 0
-cyclesIn cycle u = cond (eqb (cycledOf u .refusal) 0) 1 0
-cyclesIn (row room) u = cond room (cond (eqb (cycledOf u .refusal) 0) 1 0) 0
+cyclesIn cycle u = madeUnless (cycledOf u .refusal)
+cyclesIn (row room) u = cond room (madeUnless (cycledOf u .refusal)) 0
 cyclesIn (run k) u = ranOf u k .made
 cyclesIn (register i) u = 0
 cyclesIn drained u = 0
