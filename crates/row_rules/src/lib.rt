@@ -11,7 +11,7 @@ pub enum Stage {
     Holds(u32),
 }
 
-// For each field of EX's instruction, whether it takes WB's value.
+// For each operand of EX's instruction, whether it is WB's value; li's first operand is its rd.
 pub struct Flags {
     pub rs1: bool,
     pub rs2: bool,

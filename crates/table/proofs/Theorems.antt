@@ -19,7 +19,7 @@ use Rattle.table.specs.Operation.Operation.{nop, shrhi, au, cntih, ahs, 
 -- ---- what is read
 
 -- which of the three operands a row takes; li's first is its rd
-abbrev pub taken : Operation → Bool × Bool × Bool
+abbrev taken : Operation → Bool × Bool × Bool
 taken o = (takesFirst (readsOf o), takesSecond (readsOf o), takesThird (readsOf o))
 
 abbrev none : Bool × Bool × Bool

@@ -5,7 +5,7 @@ ghost use mathlib.Core.Bool.{false, _||_};
 ghost use Rattle.register.specs.Layout.{zeroRegister};
 ghost use Rattle.unit_rules.specs.Cycle.{isTarget};
 ghost use Rattle.unit_rules.specs.Stages.{decodedWith};
-ghost use Rattle.trace_rules.specs.RowOfCycle.{stageOf, readsRs1, writesTo, flagOf, flagsFor, flagsOf, changeTo, changeOf, shownBy};
+ghost use Rattle.trace_rules.specs.RowOfCycle.{stageOf, writesTo, flagOf, flagsFor, flagsOf, changeTo, changeOf, shownBy};
 use alu_rules::Outcome;
 use register::Register;
 use row_rules::Change;
@@ -13,7 +13,6 @@ use row_rules::Flags;
 use row_rules::Row;
 use row_rules::Stage;
 use table::Pointer;
-use table::Reads;
 use table::Target;
 use table::operands;
 use unit_record::latches::in_decoded;
@@ -22,6 +21,7 @@ use unit_rules::ExWb;
 use unit_rules::IfId;
 use unit_rules::InFlight;
 use unit_rules::Instruction;
+use unit_stages::forward::takes_first;
 use unit_stages::forward::takes_second;
 use unit_stages::forward::takes_third;
 
@@ -31,18 +31,6 @@ fn stage(latch: IfId) -> Stage
     match latch {
         IfId::Empty => Stage::Empty,
         IfId::Holds(i) => Stage::Holds(i.word),
-    }
-}
-
-fn reads_rs1(reads: Reads) -> bool
-    ensures { λ r. ⌜ r ≡ readsRs1 reads ⌝ }
-{
-    match reads {
-        Reads::Nothing => false,
-        Reads::Rs1 => true,
-        Reads::Rs1Rs2 => true,
-        Reads::Rs1Rs2Rs3 => true,
-        Reads::Rd => false,
     }
 }
 
@@ -83,13 +71,13 @@ fn names_written(wb: ExWb, i: Instruction) -> bool
     writes_to(wb, i.first) || writes_to(wb, i.second) || writes_to(wb, i.third)
 }
 
-// What the table says is read decides.
+// What the table says is read decides, as it does for forwarding.
 fn flags_by_table(wb: ExWb, i: Instruction) -> Flags
     ensures { λ r. ⌜ r ≡ flagsFor wb i ⌝ }
 {
     let reads = operands::reads(i.word);
     Flags {
-        rs1: flag(reads_rs1(reads), wb, i.first),
+        rs1: flag(takes_first(reads), wb, i.first),
         rs2: flag(takes_second(reads), wb, i.second),
         rs3: flag(takes_third(reads), wb, i.third),
     }

@@ -1,3 +1,4 @@
+pub mod Boundaries
 pub mod Shared
 pub mod Going
 pub mod Theorems

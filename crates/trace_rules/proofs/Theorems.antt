@@ -1,14 +1,11 @@
 -- For the reader of specs/: what a row says is what happened. Carried by where the latches are (`Positions` of `unit_rules`) and by the cases of a latch.
 -- Assumes nothing.
 use Rattle.unit_rules.proofs.Shared.{ℕ, zero, suc, _+_, _-_, _<_, _≤_, _≡_, refl, sym, ap, subst, _∙_, _⊎_, ⊎-elim, Bool, true, false, cond, _&&_}
-use Rattle.unit_rules.proofs.Shared.{and-false, List, map, arith, leb-false, lt-ltb, lt-leb, le-leb, ltb-true, ltb-false, leb, ltb, length, take, STATE, DRAINED, ROOM, Register, Pointer, Target, None, isLi}
-use Rattle.unit_rules.proofs.Shared.{rdOf, firstOf, rs2Of, rs3Of, Operation, operationOf, readsOf, takesSecond, takesThird, isNop, targetOf, stored}
-use Rattle.unit_rules.proofs.Shared.{plain, linesOf, instructionOf, instructionAt, fetchedIn, isTarget, afterWB, cycleOf, inDecoded}
+use Rattle.unit_rules.proofs.Shared.{and-false, List, arith, leb-false, lt-ltb, lt-leb, le-leb, ltb-true, ltb-false, leb, ltb, length, take, STATE, DRAINED, ROOM, Register, Pointer, Target, None, isLi}
+use Rattle.unit_rules.proofs.Shared.{rdOf, firstOf, rs2Of, rs3Of, Operation, operationOf, readsOf, takesFirst, takesSecond, takesThird, isNop, targetOf, stored}
+use Rattle.unit_rules.proofs.Shared.{plain, linesOf, instructionOf, instructionAt, fetchedIn, isTarget, newest, readBy, newestOperands, afterWB, afterEX, cycleOf, inDecoded}
 use Rattle.unit_rules.proofs.Shared.{inExecuted, decodedWith, lastOf, drainedOf, wellMadeOf, goOf, cycledOf, Whole, afterCalls, unitAfter, madeUnless, cyclesIn}
 use Rattle.table.specs.declared.Target.the-variants.{To as ToRegister}
-use Rattle.table.specs.Operation.{multiplyRow, shortRows}
-use Rattle.table.proofs.Rows.{each-choice}
-use Rattle.table.proofs.Theorems.{taken}
 use Rattle.table.proofs.Decided.{stops, passes, ends, apart, each, not-denied}
 use Rattle.alu_rules.specs.declared.Outcome.{Outcome}
 use Rattle.job_rules.specs.declared.Program.{Program}
@@ -27,14 +24,15 @@ use Rattle.unit_rules.specs.declared.ExWb.{ExWb}
 use Rattle.unit_rules.specs.declared.ExWb.the-variants as EX/WB
 use Rattle.unit_rules.specs.declared.Unit.{Unit}
 use Rattle.unit_rules.specs.declared.Cycled.{Cycled}
+use Rattle.unit_rules.specs.Cycle.{worked}
 use Rattle.unit_rules.specs.Sequence.Call.{row}
 use Rattle.unit_rules.proofs.Positions.{placed-cycle, drained-is, not-drained-gone}
 use Rattle.unit_rules.proofs.WellMade.{well-made-says, last-small}
 use Rattle.unit_rules.proofs.Demand3.{demand3-number, demand3-registers, demand3-cycle-answers}
 use Rattle.trace_rules.proofs.Going.{goes}
-use Rattle.trace_rules.specs.RowOfCycle.{stageOf, readsRs1, writesTo, flagsOf, changeTo, changeOf, shownBy, shownOf}
+use Rattle.trace_rules.specs.RowOfCycle.{stageOf, writesTo, flagOf, flagsFor, flagsOf, changeTo, changeOf, shownBy, shownOf}
 use Rattle.trace_rules.specs.Call.{tracedOf}
-use Rattle.trace_rules.specs.Happened.{changedBy, isNothing, writesNothing, shows, flagsShown}
+use Rattle.trace_rules.specs.Happened.{changedBy, isNothing, writesNothing, shows, flagsShown, operandShown, operandsShown}
 
 -- ---- the stages
 
@@ -140,7 +138,7 @@ flags-by wb (ID/EX.Holds i o) e =
     let second = there (i .second) (rs2Of (i .word)) (ap (λ (j : Instruction). j .second) e) in
     let third = there (i .third) (rs3Of (i .word)) (ap (λ (j : Instruction). j .third) e) in
     λ k. record {
-      rs1 = readsRs1 (readsOf (operationOf (i .word))) && first k;
+      rs1 = takesFirst (readsOf (operationOf (i .word))) && first k;
       rs2 = takesSecond (readsOf (operationOf (i .word))) && second k;
       rs3 = takesThird (readsOf (operationOf (i .word))) && third k;
     }
@@ -155,23 +153,14 @@ row-flags u made =
     let here = well-made-says u made .placed .in-ID/EX in
     flags-by (u .executed) (u .decoded) (subst OfItsWord (sym here) (fetched-of-its-word (u .program) (u .cycle - 1)))
 
--- which of rs1, rs2 and rs3 raise a flag: those of the "reads" column, for each of the 25 rows, and none for li, which "has no rs1, rs2 or rs3"
-abbrev raisedBy : Operation → Bool × Bool × Bool
-raisedBy o = (readsRs1 (readsOf o), takesSecond (readsOf o), takesThird (readsOf o))
+li-shown : (w : ℕ) (x : Change) → isLi w ≡ true → flagsShown (In.Holds w) x ≡ record { rs1 = shows x (rdOf w); rs2 = false; rs3 = false }
+unfolding operationOf firstOf
+li-shown w x h = rw h
 
-pub flag-columns : (raisedBy Operation.li ≡ (false, false, false))
-    × ((long subtract high : Bool) → raisedBy (multiplyRow long subtract high) ≡ taken (multiplyRow long subtract high))
-    × (map raisedBy shortRows ≡ map taken shortRows)
-flag-columns = (
-  refl,
-  each-choice (λ x y z. raisedBy (multiplyRow x y z) ≡ taken (multiplyRow x y z)) refl refl refl refl refl refl refl refl,
-  refl,
-)
-
--- "li has no rs1, rs2 or rs3, so its flags are 000"
-pub li-raises-nothing : (w : ℕ) (x : Change) → isLi w ≡ true → flagsShown (In.Holds w) x ≡ record { rs1 = false; rs2 = false; rs3 = false }
-unfolding operationOf
-li-raises-nothing w x h = rw h
+-- "the first flag for li is 1 exactly when WB writes li's rd": when the row shows that its rd was written; and the other two are 0
+pub li-flags : (u : Unit) (w : ℕ) → wellMadeOf u ≡ true → shownOf u .execute ≡ In.Holds w → isLi w ≡ true
+    → shownOf u .flags ≡ record { rs1 = shows (shownOf u .change) (rdOf w); rs2 = false; rs3 = false }
+li-flags u w made here h = row-flags u made ∙ ap (λ (s : Stage). flagsShown s (shownOf u .change)) here ∙ li-shown w (shownOf u .change) h
 
 -- the immediate of SHRHI or MLHCU is no register pointer
 pub immediate-raises-nothing : (w : ℕ) (x : Change) → (operationOf w ≡ Operation.shrhi) ⊎ (operationOf w ≡ Operation.mlhcu) → flagsShown (In.Holds w) x .rs2 ≡ false
@@ -181,6 +170,34 @@ immediate-raises-nothing w x = ⊎-elim (λ e. rw e) (λ e. rw e)
 pub nothing-raises-nothing : (s : Stage) → flagsShown s Nothing ≡ record { rs1 = false; rs2 = false; rs3 = false }
 nothing-raises-nothing In.Empty = refl
 nothing-raises-nothing (In.Holds w) = simp and-false
+
+operand-by : (wb : ExWb) (reads : Bool) (p : Pointer) (latched : Register) → newest wb reads p latched ≡ operandShown (flagOf reads wb p) (changeOf wb) latched
+operand-by EX/WB.Empty reads p latched = refl
+operand-by (EX/WB.Holds i o) reads p latched = go (i .target)
+  where
+    go : (t : Target) → cond (reads && isTarget t p) (o .value) latched ≡ operandShown (reads && isTarget t p) (changeTo t o) latched
+    go None = simp and-false
+    go (ToRegister q) = refl
+
+operands-by : (wb : ExWb) (i : Instruction) (o : Operands) → newestOperands wb i o ≡ operandsShown (flagsFor wb i) (changeOf wb) o
+operands-by wb i o =
+    let first = operand-by wb (takesFirst (readBy i)) (i .first) (o .first) in
+    let second = operand-by wb (takesSecond (readBy i)) (i .second) (o .second) in
+    let third = operand-by wb (takesThird (readBy i)) (i .third) (o .third) in
+    λ k. record { first = first k; second = second k; third = third k }
+
+module _ (u : Unit) (i : Instruction) (o : Operands) (here : u .decoded ≡ ID/EX.Holds i o) where
+  -- "Where WB writes a register that this instruction reads, WB's value takes the place of the latched one": where a flag is 1, which is only where the row shows
+  -- a value (`nothing-raises-nothing`), EX takes that for the operand, and otherwise the latched one
+  pub row-operands : newestOperands (u .executed) i o ≡ operandsShown (shownOf u .flags) (shownOf u .change) o
+  unfolding shownBy
+  row-operands =
+      operands-by (u .executed) i o ∙ ap (λ (d : IdEx). operandsShown (flagsOf (u .executed) d) (changeOf (u .executed)) o) (sym here)
+
+  -- and of these it makes its outcome in the cycle
+  pub row-works : cycleOf u .executed ≡ worked i (operandsShown (shownOf u .flags) (shownOf u .change) o)
+  unfolding cycleOf
+  row-works = ap (afterEX (u .executed)) here ∙ ap (worked i) row-operands
 
 -- ---- the call
 

@@ -1,19 +1,19 @@
 -- What happened in a cycle, as its row says it.
 -- Assumes nothing.
-use mathlib.Core.Bool.{Bool, true, false, _&&_}
+use mathlib.Core.Bool.{Bool, true, false, cond, _&&_}
 use mathlib.Core.List.{List}
 use lib.Dec.{eqb}
 use lib.ListN.{set}
 use Rattle.register.specs.declared.Register.{Register}
 use Rattle.table.specs.declared.Pointer.{Pointer}
 use Rattle.table.specs.Fields.{firstOf, rs2Of, rs3Of}
-use Rattle.table.specs.Operation.{operationOf, readsOf, takesSecond, takesThird, isNop}
+use Rattle.table.specs.Operation.{operationOf, readsOf, takesFirst, takesSecond, takesThird, isNop}
 use Rattle.row_rules.specs.declared.Stage.{Stage}
 use Rattle.row_rules.specs.declared.Stage.the-variants as In
 use Rattle.row_rules.specs.declared.Flags.{Flags}
 use Rattle.row_rules.specs.declared.Change.{Change}
 use Rattle.row_rules.specs.declared.Change.the-variants.{Nothing, To}
-use Rattle.trace_rules.specs.RowOfCycle.{readsRs1}
+use Rattle.unit_rules.specs.declared.Operands.{Operands}
 
 -- the registers after the change that a row shows
 abbrev pub changedBy : Change → List Register → List Register
@@ -39,7 +39,19 @@ shows (To q o) p = eqb (q .0) (p .0)
 abbrev pub flagsShown : Stage → Change → Flags
 flagsShown In.Empty x = record { rs1 = false; rs2 = false; rs3 = false }
 flagsShown (In.Holds w) x = record {
-  rs1 = readsRs1 (readsOf (operationOf w)) && shows x (firstOf w);
+  rs1 = takesFirst (readsOf (operationOf w)) && shows x (firstOf w);
   rs2 = takesSecond (readsOf (operationOf w)) && shows x (rs2Of w);
   rs3 = takesThird (readsOf (operationOf w)) && shows x (rs3Of w);
+}
+
+-- what EX takes for an operand, by its flag and the value that a row shows: "WB's value takes the place of the latched one"
+abbrev pub operandShown : Bool → Change → Register → Register
+operandShown flag Nothing latched = latched
+operandShown flag (To p o) latched = cond flag (o .value) latched
+
+abbrev pub operandsShown : Flags → Change → Operands → Operands
+operandsShown f x latched = record {
+  first = operandShown (f .rs1) x (latched .first);
+  second = operandShown (f .rs2) x (latched .second);
+  third = operandShown (f .rs3) x (latched .third);
 }

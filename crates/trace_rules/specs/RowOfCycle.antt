@@ -1,14 +1,12 @@
 -- What the row of a cycle says.
 -- Assumes nothing.
 use Prim.Native.Nat.{ℕ, _+_}
-use mathlib.Core.Bool.{Bool, true, false, _&&_}
+use mathlib.Core.Bool.{Bool, false, _&&_}
 use Rattle.alu_rules.specs.declared.Outcome.{Outcome}
 use Rattle.table.specs.declared.Pointer.{Pointer}
-use Rattle.table.specs.declared.Reads.{Reads}
-use Rattle.table.specs.declared.Reads.the-variants.{Nothing as NoField, Rs1, Rs1Rs2, Rs1Rs2Rs3, Rd}
 use Rattle.table.specs.declared.Target.{Target}
 use Rattle.table.specs.declared.Target.the-variants.{None, To as ToRegister}
-use Rattle.table.specs.Operation.{takesSecond, takesThird}
+use Rattle.table.specs.Operation.{takesFirst, takesSecond, takesThird}
 use Rattle.row_rules.specs.declared.Stage.{Stage}
 use Rattle.row_rules.specs.declared.Stage.the-variants as In
 use Rattle.row_rules.specs.declared.Flags.{Flags}
@@ -31,14 +29,6 @@ abbrev pub stageOf : IfId → Stage
 stageOf IF/ID.Empty = In.Empty
 stageOf (IF/ID.Holds i) = In.Holds (i .word)
 
--- whether rs1 is read, by the table: "li has no rs1, rs2 or rs3, so its flags are 000, though its old rd is taken newest"
-abbrev pub readsRs1 : Reads → Bool
-readsRs1 NoField = false
-readsRs1 Rs1 = true
-readsRs1 Rs1Rs2 = true
-readsRs1 Rs1Rs2Rs3 = true
-readsRs1 Rd = false
-
 -- "WB writes that register"
 abbrev pub writesTo : ExWb → Pointer → Bool
 writesTo EX/WB.Empty p = false
@@ -48,9 +38,10 @@ writesTo (EX/WB.Holds i o) p = isTarget (i .target) p
 abbrev pub flagOf : Bool → ExWb → Pointer → Bool
 flagOf reads wb p = reads && writesTo wb p
 
+-- one for each operand; "the first flag for li is 1 exactly when WB writes li's rd", which is its first operand
 abbrev pub flagsFor : ExWb → Instruction → Flags
 flagsFor wb i = record {
-  rs1 = flagOf (readsRs1 (readBy i)) wb (i .first);
+  rs1 = flagOf (takesFirst (readBy i)) wb (i .first);
   rs2 = flagOf (takesSecond (readBy i)) wb (i .second);
   rs3 = flagOf (takesThird (readBy i)) wb (i .third);
 }

@@ -9,6 +9,8 @@ use Rattle.unit_stages.proofs.fetch.next_count.Kinds as next-count-kind
 use Rattle.unit_stages.proofs.fetch.next_count.Reads as next-count-reads
 use Rattle.unit_stages.proofs.write_back.written.Kinds as written-kinds
 use Rattle.unit_stages.proofs.write_back.written.Reads as written-reads
+use Rattle.unit_stages.proofs.forward.takes_first.Kinds as takes-first-kinds
+use Rattle.unit_stages.proofs.forward.takes_first.Reads as takes-first-reads
 use Rattle.unit_stages.proofs.forward.takes_second.Kinds as takes-second-kinds
 use Rattle.unit_stages.proofs.forward.takes_second.Reads as takes-second-reads
 use Rattle.unit_stages.proofs.forward.takes_third.Kinds as takes-third-kinds
@@ -34,6 +36,9 @@ next-count-unique = by-value (λ κs a. no-requires) (λ κs a v w. refl)
 
 pub written-unique : Determined 0 written-kinds.ps written-kinds.r written-reads.requires written-reads.Post
 written-unique = by-value (λ κs a. no-requires) (λ κs a v w. refl)
+
+pub takes-first-unique : Determined 0 takes-first-kinds.ps takes-first-kinds.r takes-first-reads.requires takes-first-reads.Post
+takes-first-unique = by-value (λ κs a. no-requires) (λ κs a v w. refl)
 
 pub takes-second-unique : Determined 0 takes-second-kinds.ps takes-second-kinds.r takes-second-reads.requires takes-second-reads.Post
 takes-second-unique = by-value (λ κs a. no-requires) (λ κs a v w. refl)

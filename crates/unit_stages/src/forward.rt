@@ -14,7 +14,7 @@ use unit_rules::Operands;
 use unit_rules::Write;
 
 // Whether the first operand is read: rs1, or li's old rd.
-fn takes_first(reads: Reads) -> bool
+pub fn takes_first(reads: Reads) -> bool
     ensures { λ r. ⌜ r ≡ takesFirst reads ⌝ }
 {
     match reads {

@@ -10,7 +10,7 @@ returns c =
       c .before .before .flag2 .ensures,
       c .before .before .before .takes-second .ensures,
       first .flag .ensures,
-      first .before .reads-rs1 .ensures,
+      first .before .takes-first .ensures,
       first .before .before .reads .ensures,
     )
 
