@@ -624,16 +624,16 @@ if is_there assemble examples/sample.text; then
     run ./card assemble examples/sample.text "$TRY/missing"
     gives 2; out_is ''
     end
-fi
 
-if is_there assemble examples/two-li.text && is_there trace examples/sample.job; then
-    begin 'a text through the real assemble and trace: two li of one register'
-    run ./card assemble examples/two-li.text
-    gives 0; err_is ''
-    cp "$TRY/out" "$TRY/two-li.job"
-    run ./card trace "$TRY/two-li.job"
-    gives 0; prints examples/two-li.trace; err_is ''
-    end
+    if is_there trace examples/sample.job; then
+        begin 'a text through the real assemble and trace: two li of one register'
+        run ./card assemble examples/two-li.text
+        gives 0; err_is ''
+        cp "$TRY/out" "$TRY/two-li.job"
+        run ./card trace "$TRY/two-li.job"
+        gives 0; prints examples/two-li.trace; err_is ''
+        end
+    fi
 fi
 
 if is_there texts examples/sample.text; then
