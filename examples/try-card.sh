@@ -527,10 +527,10 @@ cd "$here" || exit 1
 PATH=$own_path
 
 # Whether the real program can be tried on this example: it is run once with its messages shown, since it may have to build, and one wants to see how far it is.
-is_there() { # PROGRAM EXAMPLE
+is_there() { # VERB EXAMPLE [PROGRAM]
     if ! command -v rt >/dev/null; then
         skip "the real $1: the kit's command rt is not on the path"
-    elif [ -z "$real" ] && [ ! -x "target/card/$1" ]; then
+    elif [ -z "$real" ] && [ ! -x "target/card/${3-$1}" ]; then
         skip "the real $1: ./card has not built it yet, and --real was not asked for"
     elif ! ./card "$1" "$2" >/dev/null; then
         begin "the real $1"
@@ -643,6 +643,43 @@ if is_there texts examples/sample.text; then
     gives 1; out_is "examples/sample.text\nWORDS 2\n00000A1\n1810422\n$TRY/refused\nREFUSED 11 2\n"; err_is ''
     run ./card texts "$TRY/missing"
     gives 2; err_is "UNREADABLE $TRY/missing\n"
+    end
+fi
+
+if is_there list examples/sample.job listing; then
+    begin 'the real list on examples/sample.job and examples/larger.job, from a name and from standard input'
+    run ./card list examples/sample.job
+    gives 0; prints examples/sample.text; err_is ''
+    run ./card list <examples/larger.job
+    gives 0; prints examples/larger.text; err_is ''
+    end
+
+    begin 'the real list on a job that is refused and on one that is missing'
+    run ./card list "$TRY/job"
+    gives 1; out_is ''; err_is 'REFUSED 1\n'
+    run ./card list "$TRY/missing.job"
+    gives 2; out_is ''; err_has "$TRY/missing.job"
+    end
+
+    if is_there assemble examples/sample.text; then
+        begin 'a job through the real list and assemble: the same file; with its registers, too'
+        status=0
+        ./card list examples/sample.job | ./card assemble >"$TRY/out" 2>"$TRY/err" || status=$?
+        gives 0; prints examples/sample.job; err_is ''
+        tail -c 512 examples/larger.job >"$TRY/registers"
+        status=0
+        ./card list examples/larger.job | ./card assemble /dev/stdin "$TRY/registers" >"$TRY/out" 2>"$TRY/err" || status=$?
+        gives 0; prints examples/larger.job; err_is ''
+        end
+    fi
+fi
+
+if is_there listings examples/sample.job; then
+    begin 'the real listings on a good, a refused and a missing job'
+    run ./card listings examples/sample.job "$TRY/job"
+    gives 1; out_is "examples/sample.job\nli 1 0 5\nau 2 1 1\n\n$TRY/job\nREFUSED 1\n\n"; err_is ''
+    run ./card listings "$TRY/missing"
+    gives 2; out_is "$TRY/missing\n\n"; err_is "UNREADABLE $TRY/missing\n"
     end
 fi
 

@@ -1,18 +1,15 @@
 // Reads a program text from standard input and writes its job file to standard output. Where a file is named as an argument, its bytes are the job's registers, 16 each.
 // A text or a job that is refused writes nothing there, and standard error says with which number, and of a text also in which line.
 
+use console::arguments::read_argument;
 use console::input::Came;
-use console::input::read_named;
-use console::input::read_open;
+use console::input::read_input;
 use console::output::print_front;
-use console::output::say;
-use console::output::say_unreadable;
 use console::output::write_refused;
 use console::output::write_refused_line;
 use job_writer::LARGEST;
 use job_writer::write_job;
 use libc::STDERR_FILENO;
-use libc::STDIN_FILENO;
 use text_reader::BYTES_TO_READ;
 use text_reader::read_text;
 ghost use Rattle.console.specs.Input.{CameInto};
@@ -30,13 +27,7 @@ fn read_registers(room: &mut [u8]) -> Came
             size: 0,
         };
     }
-    let mut name = io::buffer();
-    let length = os::arg(1, &mut name);
-    let came = read_named(&name[..length], room);
-    if came.failed {
-        say_unreadable(&name[..length]);
-    }
-    came
+    read_argument(1, room)
 }
 
 fn write_program(words: &[u32], registers: &[u8]) {
@@ -62,9 +53,8 @@ fn assemble(text: &[u8], registers: &[u8]) {
 
 fn main() {
     let mut text = [0u8; BYTES_TO_READ];
-    let came = read_open(STDIN_FILENO, &mut text);
+    let came = read_input(&mut text);
     if came.failed {
-        say(b"UNREADABLE\n");
         return;
     }
     let mut registers = [0u8; REGISTER_BYTES];

@@ -2,10 +2,11 @@
 -- Assumes nothing.
 use Prim.Native.Nat.{ℕ, suc, _+_, _-_, _≤_, _<_}
 use mathlib.Core.Path.{_≡_, sym, ap, _∙_}
-use mathlib.Core.List.{List, [], _++_, append-assoc, append-nil}
+use mathlib.Core.List.{List, [], _∷_, _++_, append-assoc, append-nil}
 use native.Mathlib.Omega.{arith}
+use native.Mathlib.Nat.{le-refl}
 use native.Mathlib.Numerals.{add-one}
-use borrow.Rule.Slice.PartMut.{midOf, postOf, putMid}
+use borrow.Rule.Slice.PartMut.{midOf, postOf, putMid, mid-len}
 use lib.ListN.{length, getD, take, drop, set, length-append, length-drop, drop-of-length-le}
 use lib.Seq.{take-at, drop-at, drop-drop, take-all, take-suc, drop-cons, set-at, append-snoc, length-take-le}
 use Rattle.buffer.specs.Front.{atFront, fromStart}
@@ -45,6 +46,21 @@ module _ {A : Type 0} where
       let m : length (take (suc i) s) ≡ suc i = length-take-le (suc i) s h in
       rw (o, n, add-one, m, take-suc s i z h, drop-cons old i z (omega arith))
       (set-at (take i s) (getD old i z) (drop (suc i) old) (getD s i z) i n ∙ sym (append-snoc (take i s) (getD s i z) (drop (suc i) old)))
+
+  -- an element stored behind what stands at the front
+  pub then-stored : (a : ℕ) (b : A) (p old xs : List A) → length p ≡ a → a < length old → xs ≡ atFront p old → set xs a b ≡ atFront (p ++ b ∷ []) old
+  then-stored a b p old xs n h e =
+      let size : length (p ++ b ∷ []) ≡ suc a = omega (arith, length-append p (b ∷ [])) in
+      rw (e, size, n, drop-cons old a b h, append-snoc p b (drop (suc a) old)) (set-at p (getD old a b) (drop (suc a) old) b a n)
+
+  -- as many elements as there is room for: all of them, where they fit
+  pub all-fit : (p old : List A) → length p ≤ length old → atFront (take (length old) p) old ≡ atFront p old
+  all-fit p old h = ap (λ (q : List A). atFront q old) (take-all (length old) p h)
+
+  -- in the part from a on
+  pub all-fit-from : (a : ℕ) (p xs : List A) {ys : List A} → ys ≡ atFront (take (length (midOf a (length xs - a) xs)) p) (midOf a (length xs - a) xs)
+      → a + length p ≤ length xs → ys ≡ atFront p (midOf a (length xs - a) xs)
+  all-fit-from a p xs e h = e ∙ all-fit p (midOf a (length xs - a) xs) (omega (arith, mid-len a (length xs) xs (le-refl (length xs))))
 
 -- a loop that has gone through its list: what it made of the elements before i it made of all
 pub through : {A B : Type 0} (f : List A → B) (s : List A) (i : ℕ) {x : B} → length s ≤ i → x ≡ f (take i s) → x ≡ f s

@@ -3,9 +3,9 @@
 use crate::answers;
 use console::input::read_named;
 use console::output::say_unreadable;
+use job_reader::BYTES_TO_READ;
 use row::ROW_SIZE;
 use script::decimal;
-use trace_text::BYTES_TO_READ;
 use unit_rules::Unit;
 
 // A fresh unit in place of the one there was, which is no call and has no answer.

@@ -1,6 +1,8 @@
 // Reading into a lent buffer, in as many pieces as it comes in.
 
 ghost use Rattle.console.specs.Input.{CameInto};
+use crate::output::say;
+use libc::STDIN_FILENO;
 
 // How many bytes came, at the front of the buffer; or that the input could not be read, and then none.
 pub struct Came {
@@ -50,6 +52,17 @@ pub fn read_open(fd: i32, room: &mut [u8]) -> Came
         failed: false,
         size,
     }
+}
+
+// The same of standard input. Where it cannot be read, standard error says so.
+pub fn read_input(room: &mut [u8]) -> Came
+    ensures { λ r. ⌜ CameInto r (now (room .exit)) ⌝ }
+{
+    let came = read_open(STDIN_FILENO, room);
+    if came.failed {
+        say(b"UNREADABLE\n");
+    }
+    came
 }
 
 // The same of the file of that name: one that cannot be opened cannot be read.

@@ -4,7 +4,7 @@ ghost use Prim.Native.Nat.{_+_, _*_, _≤_};
 ghost use mathlib.Core.Path.{_≡_};
 ghost use lib.ListN.{length, drop};
 ghost use Rattle.register.specs.Layout.{zeroRegister};
-ghost use Rattle.job_rules.specs.Layout.{instructionsAt, sizeOf, wordsIn, registersOf};
+ghost use Rattle.job_rules.specs.Layout.{instructionsAt, bytesToRead, sizeOf, wordsIn, registersOf};
 ghost use Rattle.job_rules.specs.Read.{filled, refusedOf, numberOf, bodyOf, readOf};
 
 pub mod header;
@@ -21,6 +21,16 @@ use job_rules::ReadJob;
 use register::Register;
 use table::Count;
 use table::refusal;
+
+// So many bytes of a file decide what is read of it: a program need not read more of any input.
+pub const BYTES_TO_READ: usize = 777;
+
+// The constant, by a contract.
+pub fn bytes_to_read() -> usize
+    ensures { λ r. ⌜ r ≡ bytesToRead ⌝ }
+{
+    BYTES_TO_READ
+}
 
 fn number(h: Header) -> u32
     ensures { λ k. ⌜ k ≡ numberOf h ⌝ }

@@ -4,10 +4,14 @@
 use Rattle.job_rules.proofs.Shared.{ℕ, suc, _+_, _<_, arith, _≡_, sym, ap, _∙_, not, _||_, List, [], _∷_, ltb-true, ltb-false, eqb-true}
 use Rattle.job_rules.proofs.Shared.{not-false, ltb, eqb, length, take, getD-take, length-take-le, COUNT, REGS, PLACE, Refused, ReadJob}
 use Rattle.job_rules.proofs.Shared.{instructionsAt, registersAt, sizeOf, LARGEST, twoAt, refusedOf, testedOf, headerOf, answerFor, readOf}
+use mathlib.Core.Path.{refl}
+use mathlib.Core.Bool.{Bool, true, false}
+use lib.Seq.{take-all}
 use Rattle.table.specs.Decided.{decided}
 use Rattle.table.specs.Refusal.{LENGTH}
 use Rattle.table.proofs.Decided.{apart, deciding}
 use Rattle.job_rules.specs.declared.Header.{Header}
+use Rattle.job_rules.specs.Layout.{bytesToRead}
 
 -- the number that counts and offsets give a file that is too long
 abbrev numberFor : ℕ → ℕ → ℕ → ℕ → ℕ
@@ -39,7 +43,7 @@ read-too-long : (l : List ℕ) → LARGEST < length l → readOf instructionsAt 
 read-too-long l long = ap (answerFor instructionsAt l) (header-too-long l long)
 
 -- "at most 776": a file over 776 bytes is answered as its first 777 bytes are
-pub first-bytes-decide : (l : List ℕ) → LARGEST < length l → readOf instructionsAt l ≡ readOf instructionsAt (take (suc LARGEST) l)
+first-bytes-decide : (l : List ℕ) → LARGEST < length l → readOf instructionsAt l ≡ readOf instructionsAt (take (suc LARGEST) l)
 first-bytes-decide l long =
     let size = length-take-le (suc LARGEST) l long in
     let short : ℕ → ℕ → ℕ → ℕ → ReadJob = λ n r f g. refusedOf (numberFor n r f g) 0 in
@@ -49,3 +53,11 @@ first-bytes-decide l long =
   where
     two : (k : ℕ) → k < 7 → twoAt l k ≡ twoAt (take (suc LARGEST) l) k
     two k h = rw (getD-take (suc LARGEST) l k 0 (omega arith), getD-take (suc LARGEST) l (k + 1) 0 (omega arith))
+
+-- so the first 777 bytes of any file decide what is read of it
+pub first-777-bytes : (l : List ℕ) → readOf instructionsAt (take bytesToRead l) ≡ readOf instructionsAt l
+first-777-bytes l = by (ltb LARGEST (length l)) refl
+  where
+    by : (t : Bool) → ltb LARGEST (length l) ≡ t → readOf instructionsAt (take bytesToRead l) ≡ readOf instructionsAt l
+    by true e = sym (first-bytes-decide l (ltb-true LARGEST (length l) e))
+    by false e = ap (readOf instructionsAt) (take-all bytesToRead l (omega (arith, ltb-false LARGEST (length l) e)))

@@ -22,6 +22,10 @@ sizeOf at n r = at + 4 * n + 16 * r
 abbrev pub LARGEST : ℕ
 LARGEST = 776
 
+-- so many bytes of a file decide what is read of it: one more than the largest has
+abbrev pub bytesToRead : ℕ
+bytesToRead = 777
+
 -- ---- what is written
 
 -- "Numbers are least significant byte first": a number of two bytes, and an instruction, which "takes 4 bytes"

@@ -15,6 +15,7 @@ pub mod tests;
 use crate::numbers::put_four;
 use crate::numbers::put_pair;
 use crate::tests::size_or_refusal;
+use buffer::put_front;
 use job_rules::INSTRUCTIONS_AT;
 use job_rules::Written;
 
@@ -49,17 +50,6 @@ fn put_words(out: &mut [u8], words: &[u32])
     }
 }
 
-pub(crate) fn put_bytes(out: &mut [u8], bytes: &[u8])
-    requires { ⌜ length (now bytes) ≤ length (now out) ⌝ }
-    ensures { λ _. ⌜ now (out .exit) ≡ atFront (now (bytes .entry)) (now (out .entry)) ⌝ }
-{
-    let mut i = 0;
-    while i < bytes.len() {
-        out[i] = bytes[i];
-        i += 1;
-    }
-}
-
 fn put_job(out: &mut [u8], words: &[u32], registers: &[u8])
     requires { ⌜ (length (now words) ≤ 64) × (8 + 4 * length (now words) + length (now registers) ≤ length (now out)) ⌝ }
     ensures { λ _. ⌜ now (out .exit) ≡ atFront (encode instructionsAt (now (words .entry)) (now (registers .entry))) (now (out .entry)) ⌝ }
@@ -69,7 +59,7 @@ fn put_job(out: &mut [u8], words: &[u32], registers: &[u8])
     put_header(out, INSTRUCTIONS_AT, n, r);
     put_words(&mut out[INSTRUCTIONS_AT..], words);
     let at = INSTRUCTIONS_AT + 4 * n;
-    put_bytes(&mut out[at..], registers);
+    put_front(&mut out[at..], registers);
 }
 
 // Writes a job at the front of the buffer. The words are its instructions, the register bytes those of registers 0, 1, 2 .. one after another, 16 each. The

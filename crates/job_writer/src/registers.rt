@@ -6,7 +6,7 @@ ghost use mathlib.Core.List.{flatMap};
 ghost use lib.ListN.{length};
 ghost use Rattle.buffer.specs.Front.{atFront};
 ghost use Rattle.register.specs.Layout.{bytesOf};
-use crate::put_bytes;
+use buffer::put_front;
 use register::Register;
 
 fn put_registers(out: &mut [u8], registers: [Register; 32])
@@ -18,7 +18,7 @@ fn put_registers(out: &mut [u8], registers: [Register; 32])
         let register = registers[i];
         let bytes = register.to_bytes();
         let at = 16 * i;
-        put_bytes(&mut out[at..], &bytes);
+        put_front(&mut out[at..], &bytes);
         i += 1;
     }
 }

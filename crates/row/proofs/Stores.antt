@@ -6,9 +6,9 @@ use mathlib.Core.List.{List, [], _∷_, _++_, append-assoc}
 use native.Mathlib.Omega.{arith}
 use borrow.Rule.Slice.PartMut.{midOf, putMid}
 use lib.ListN.{length, getD, take, drop, set, length-append, length-drop}
-use lib.Seq.{take-suc, drop-cons, drop-drop, set-at, append-snoc, length-take-le}
+use lib.Seq.{take-suc, drop-drop, set-at, append-snoc, length-take-le}
 use Rattle.buffer.specs.Front.{atFront, fromStart}
-use Rattle.buffer.proofs.Parts.{put-from, then-from, then-front}
+use Rattle.buffer.proofs.Parts.{put-from, then-from, then-front, then-stored}
 
 -- an element stored before what stands from the next place on
 pub stored-before : (j b : ℕ) (p old out : List ℕ) → j < length old → out ≡ fromStart (suc j) p old → set out j b ≡ fromStart j (b ∷ p) old
@@ -19,12 +19,6 @@ stored-before j b p old out h e =
     = drop-drop (length p) (suc j) old ∙ ap (λ (k : ℕ). drop k old) place ∙ sym (drop-drop (suc (length p)) j old) in
     rw (e, take-suc old j b h, append-snoc (take j old) (getD old j b) (p ++ drop (length p) (drop (suc j) old)), ← behind)
     (set-at (take j old) (getD old j b) _ b j n)
-
--- an element stored behind what stands at the front
-then-stored : (a b : ℕ) (p old xs : List ℕ) → length p ≡ a → a < length old → xs ≡ atFront p old → set xs a b ≡ atFront (p ++ (b ∷ [])) old
-then-stored a b p old xs n h e =
-    let size : length (p ++ (b ∷ [])) ≡ suc a = omega (arith, length-append p (b ∷ [])) in
-    rw (e, size, n, drop-cons old a b h, append-snoc p b (drop (suc a) old)) (set-at p (getD old a b) (drop (suc a) old) b a n)
 
 -- the part of a buffer from a on, and the buffer with what was made of that part
 abbrev pub part : ℕ → List ℕ → List ℕ

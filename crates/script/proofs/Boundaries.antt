@@ -6,9 +6,10 @@ use mathlib.Core.Bool.{true}
 use mathlib.Core.List.{List, [], _∷_, _++_}
 use lib.ListN.{replicate}
 use Rattle.text_rules.specs.Front.{frontWhile}
+use Rattle.text_rules.specs.Number.{digitOf}
 use Rattle.script.specs.declared.Number.{Number}
 use Rattle.script.specs.Words.{nextPlace, lineEnd, wordEnd}
-use Rattle.script.specs.Numbers.{digitOf, unknown, saidIn}
+use Rattle.script.specs.Numbers.{unknown, saidIn}
 
 -- a number that is known
 abbrev known : ℕ → Number

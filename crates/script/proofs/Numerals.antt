@@ -10,10 +10,10 @@ use native.Mathlib.Omega.{arith}
 use borrow.Author.Tests.{lt-ltb, le-ltb}
 use lib.ListN.{length, getD, drop, drop-of-length-le}
 use lib.Seq.{drop-cons}
-use Rattle.text_rules.specs.Number.{positional}
+use Rattle.text_rules.specs.Number.{digitOf, positional, numberOf}
 use Rattle.text_rules.proofs.Positional.{at-least}
 use Rattle.script.specs.declared.Number.{Number}
-use Rattle.script.specs.Numbers.{digitOf, allDigits, numberOf, unknown, saidIn}
+use Rattle.script.specs.Numbers.{allDigits, unknown, saidIn}
 
 -- ---- what digits say, by the tests
 

@@ -2,24 +2,12 @@
 
 ghost use Prim.Native.Nat.{_≤_};
 ghost use mathlib.Core.Path.{_≡_};
-ghost use Rattle.script.specs.Numbers.{digitOf, unknown, saidIn};
+ghost use Rattle.script.specs.Numbers.{unknown, saidIn};
 use crate::Number;
+use text_table::digit;
 
 // 2^32: no number of a script is so large.
 const LIMIT: u64 = 0x1_0000_0000;
-
-// What a byte says as a digit: 0 to 15, and 16 where it is none.
-fn digit(b: u8) -> u8
-    ensures { λ r. ⌜ r ≡ digitOf b ⌝ }
-{
-    if b >= b'0' && b <= b'9' {
-        return b - b'0';
-    }
-    if b >= b'A' && b <= b'F' {
-        return b - b'A' + 10;
-    }
-    16
-}
 
 fn unknown() -> Number
     ensures { λ r. ⌜ r ≡ unknown ⌝ }
@@ -31,7 +19,7 @@ fn unknown() -> Number
 }
 
 // What digits of a base say. It is left as soon as the number is too large, so that it never wraps, however many digits follow.
-fn in_base(base: u8, digits: &[u8]) -> Number
+fn in_base(base: u64, digits: &[u8]) -> Number
     requires { ⌜ (1 ≤ base) × (base ≤ 16) ⌝ }
     ensures { λ r. ⌜ r ≡ saidIn base (now (digits .entry)) ⌝ }
 {
@@ -42,7 +30,7 @@ fn in_base(base: u8, digits: &[u8]) -> Number
         if d >= base {
             return unknown();
         }
-        value = base as u64 * value + d as u64;
+        value = base * value + d;
         if value >= LIMIT {
             return unknown();
         }

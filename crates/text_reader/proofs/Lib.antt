@@ -1,5 +1,4 @@
 pub mod Behind
-pub mod Cells
 pub mod Keys
 pub mod Names
 pub mod Numbers

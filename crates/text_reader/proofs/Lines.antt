@@ -14,32 +14,32 @@ use Rattle.table.specs.Refusal.{NAME, OPERANDS}
 use Rattle.table.proofs.Decided.{stops, passes, ends}
 use Rattle.text_rules.specs.declared.Operands.{Operands}
 use Rattle.text_rules.specs.declared.Line.{Line}
-use Rattle.text_rules.specs.Forms.{forms, formAt, rowNamed}
+use Rattle.text_rules.specs.Forms.{formAt, rowNamed}
 use Rattle.text_rules.specs.Line.{inName, nameIn, behindName, operandsIn, refusedLine, acceptedLine, lineOf}
 use Rattle.text_rules.proofs.Fronts.{front-fits}
 use Rattle.text_reader.specs.declared.name.Name.{Name}
 use Rattle.text_reader.specs.Front.{NameRead}
-use Rattle.text_reader.specs.Table.{rowKeyed}
+use Rattle.text_reader.specs.Keys.{rowKeyed}
 use Rattle.text_reader.proofs.Names.{name-bytes}
 use Rattle.text_reader.proofs.NameKeys.{row-of-key, named-whole}
 
 module _ (text : List ℕ) (bytes : (i : ℕ) → Fits w8 (getD text i 0)) (n : Name) (read : NameRead n text)
-    (row : ℕ) (found : row ≡ rowKeyed (n .key) forms) where
-  row-is : row ≡ rowNamed (nameIn text) forms
-  row-is = found ∙ ap (λ (key : ℕ). rowKeyed key forms) (read .key) ∙ row-of-key (nameIn text) (name-bytes text (λ i. bytes i .fits))
+    (row : ℕ) (found : row ≡ rowKeyed (n .key)) where
+  row-is : row ≡ rowNamed (nameIn text)
+  row-is = found ∙ ap rowKeyed (read .key) ∙ row-of-key (nameIn text) (name-bytes text (λ i. bytes i .fits))
 
-  unknown : 25 ≤ row → leb 25 (rowNamed (nameIn text) forms) ≡ true
-  unknown h = le-leb 25 _ (rw row-is at h)
+  unknown : 26 ≤ row → leb 26 (rowNamed (nameIn text)) ≡ true
+  unknown h = le-leb 26 _ (rw row-is at h)
 
-  known : row < 25 → leb 25 (rowNamed (nameIn text) forms) ≡ false
-  known h = lt-leb 25 _ (rw row-is at h)
+  known : row < 26 → leb 26 (rowNamed (nameIn text)) ≡ false
+  known h = lt-leb 26 _ (rw row-is at h)
 
   -- a name that no row has
-  pub no-name : 25 ≤ row → {r : Line} → r ≡ refusedLine NAME → r ≡ lineOf text
+  pub no-name : 26 ≤ row → {r : Line} → r ≡ refusedLine NAME → r ≡ lineOf text
   unfolding lineOf
   no-name h e = e ∙ stops _ _ (unknown h)
 
-  module _ (h : row < 25) where
+  module _ (h : row < 26) where
     size-is : n .size ≡ length (nameIn text)
     size-is = read .size ∙ ap length (named-whole (nameIn text) (omega (arith, row-is)))
 
@@ -47,8 +47,8 @@ module _ (text : List ℕ) (bytes : (i : ℕ) → Fits w8 (getD text i 0)) (n : 
     pub name-within : n .size ≤ length text
     name-within = omega (arith, size-is, front-fits inName text)
 
-    module _ (s : Operands) (said : s ≡ operandsIn (formAt row .operands) (formAt row .word) (n .size) (drop (n .size) text)) where
-      said-is : s ≡ behindName (formAt (rowNamed (nameIn text) forms)) (nameIn text) text
+    module _ (s : Operands) (said : s ≡ operandsIn (formAt row .notation) (formAt row .operands) (formAt row .word) (n .size) (drop (n .size) text)) where
+      said-is : s ≡ behindName (formAt (rowNamed (nameIn text))) (nameIn text) text
       said-is = said ∙ rw (size-is, row-is)
 
       -- a name behind which something is not as stated

@@ -10,13 +10,14 @@ use borrow.Author.Tests.{ltb-true, leb-true, eq-eqb, ne-eqb}
 use lib.Dec.{ltb, leb, eqb}
 use lib.ListN.{length, take}
 use lib.Seq.{take-all, length-take-le}
-use Rattle.text_rules.specs.Forms.{Form, forms, formAt, sameBytes, rowNamed}
+use Rattle.text_rules.specs.Forms.{Form, everyForm, firstRow, sameBytes, rowNamed}
 use Rattle.text_rules.proofs.Fronts.{all-map}
 use Rattle.text_rules.proofs.Positional.{AllBelow, same-length, below-power, above-power}
 use Rattle.text_rules.proofs.Rows.{both, every, every-all, same-bytes, same-as-itself, sound}
 use Rattle.text_rules.proofs.Stated.{found}
-use Rattle.text_reader.specs.Table.{keyOf, rowKeyed}
-use Rattle.text_reader.proofs.Behind.{at-most}
+use Rattle.text_table.specs.Table.{keyOf}
+use Rattle.text_reader.specs.Keys.{rowKeyed}
+use Rattle.text_table.proofs.Operands.{at-most}
 
 -- ---- keys
 
@@ -62,8 +63,9 @@ keyed f = leb (length (f .name)) 6 && every (λ b. ltb b 256) (f .name)
 each-byte : (l : List ℕ) → every (λ b. ltb b 256) l ≡ true → AllBelow 256 l
 each-byte l e = all-map (λ b. ltb-true b 256) l (every-all (λ b. ltb b 256) l e)
 
-same-row : (name : List ℕ) → AllBelow 256 (take 7 name) → (fs : List Form) → every keyed fs ≡ true → rowKeyed (keyOf (take 7 name)) fs ≡ rowNamed name fs
-unfolding rowKeyed rowNamed
+same-row : (name : List ℕ) → AllBelow 256 (take 7 name) → (fs : List Form) → every keyed fs ≡ true
+    → firstRow (λ (f : Form). eqb (keyOf (f .name)) (keyOf (take 7 name))) fs ≡ firstRow (λ (f : Form). sameBytes name (f .name)) fs
+unfolding firstRow
 same-row name h [] e = refl
 same-row name h (f ∷ fs) e =
     let s = both (keyed f) (every keyed fs) e in
@@ -71,10 +73,9 @@ same-row name h (f ∷ fs) e =
     rw (by-seven name (f .name) (leb-true _ _ (t .0)) h (each-byte (f .name) (t .1)), same-row name h fs (s .1))
 
 -- the row of a name's key is the row of the name
-pub row-of-key : (name : List ℕ) → AllBelow 256 (take 7 name) → rowKeyed (keyOf (take 7 name)) forms ≡ rowNamed name forms
-row-of-key name h = same-row name h forms refl
+pub row-of-key : (name : List ℕ) → AllBelow 256 (take 7 name) → rowKeyed (keyOf (take 7 name)) ≡ rowNamed name
+row-of-key name h = same-row name h everyForm refl
 
 -- seven bytes hold a name that has a row
-pub named-whole : (name : List ℕ) → rowNamed name forms < 25 → take 7 name ≡ name
-named-whole name h =
-    take-all 7 name (omega (arith, ap length (found name forms (formAt 25) h), sound (rowNamed name forms) h .short))
+pub named-whole : (name : List ℕ) → rowNamed name < 26 → take 7 name ≡ name
+named-whole name h = take-all 7 name (omega (arith, ap length (found name h), sound (rowNamed name) h .short))

@@ -16,7 +16,7 @@ use Rattle.text_rules.specs.Line.{inName, nameIn}
 use Rattle.text_rules.specs.Number.{positional}
 use Rattle.text_rules.proofs.Fronts.{all-parts, all-front, front-at-end, front-ended, front-more}
 use Rattle.text_rules.proofs.Positional.{AllBelow, below-power, at-least}
-use Rattle.text_reader.specs.Table.{keyOf}
+use Rattle.text_table.specs.Table.{keyOf}
 use Rattle.text_reader.specs.Front.{NameRead}
 
 -- ---- what is left of a name, of seven bytes at most, from a byte on

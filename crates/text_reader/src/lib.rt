@@ -4,15 +4,13 @@ ghost use Prim.Native.Nat.{_≤_};
 ghost use mathlib.Core.Path.{_≡_};
 ghost use Rattle.text_rules.specs.Line.{refusedLine, lineOf};
 ghost use Rattle.text_rules.specs.Text.{refusedText, readTextOf, bytesToRead};
-ghost use Rattle.text_reader.specs.Table.{formTable};
+ghost use Rattle.text_table.specs.Table.{formTable};
 
 mod forms;
 mod name;
 mod number;
 mod operands;
 
-use crate::forms::FORMS;
-use crate::forms::ROWS;
 use crate::forms::row_of;
 use crate::name::name_in;
 use crate::operands::operands_in;
@@ -20,6 +18,8 @@ use table::Count;
 use table::refusal;
 use text_rules::Line;
 use text_rules::ReadText;
+use text_table::ROWS;
+use text_table::forms;
 
 // So many bytes of a text decide its answer: a program need not read more of any input.
 pub const BYTES_TO_READ: usize = 1217;
@@ -106,6 +106,6 @@ fn read_by(text: &[u8], table: &[u64]) -> ReadText
 pub fn read_text(text: &[u8]) -> ReadText
     ensures { λ r. ⌜ r ≡ readTextOf (now (text .entry)) ⌝ }
 {
-    let table = FORMS;
+    let table = forms();
     read_by(text, &table)
 }

@@ -3,7 +3,7 @@
 -- Assumes nothing.
 use Prim.Native.Nat.{ℕ, suc, _-_, _<_}
 use mathlib.Core.Path.{_≡_, refl, sym, ap, subst, _∙_}
-use mathlib.Core.Bool.{true, cond}
+use mathlib.Core.Bool.{true, cond, false≢true}
 use mathlib.Core.List.{List, [], _∷_, _++_, flatMap, append-assoc}
 use native.Mathlib.Omega.{arith}
 use lib.Dec.{leb}
@@ -11,15 +11,16 @@ use lib.ListN.{length, drop, length-append, length-map}
 use Rattle.table.specs.Refusal.{NAME, OPERANDS, LINES}
 use Rattle.text_rules.specs.declared.Line.{Line}
 use Rattle.text_rules.specs.declared.ReadText.{ReadText}
-use Rattle.text_rules.specs.Forms.{Form, forms, formAt, rowNamed}
+use Rattle.text_rules.specs.Forms.{Form, formAt, rowNamed}
 use Rattle.text_rules.specs.Front.{frontWhile}
-use Rattle.text_rules.specs.Number.{isDigit}
+use Rattle.text_rules.specs.Number.{Notation, baseOf, digitOf, isDigit, digitsFor}
 use Rattle.text_rules.specs.Line.{NEWLINE, inName, nameIn, refusedLine, lineOf}
 use Rattle.text_rules.specs.Text.{refusedText, readFrom, readTextOf}
-use Rattle.text_rules.proofs.Written.{decimal, numbersText}
+use Rattle.text_rules.specs.Number.Notation.{decimal, sevenHex}
+use Rattle.text_rules.specs.Listing.{numbersText}
 use Rattle.text_rules.proofs.Fronts.{All, all-map, all-append}
-use Rattle.text_rules.proofs.Numerals.{digit-bounds, decimal-says}
-use Rattle.text_rules.proofs.Rows.{every-all, isLetter, letter-bounds, sound}
+use Rattle.text_rules.proofs.Numerals.{all-digits}
+use Rattle.text_rules.proofs.Rows.{every-all, sound}
 use Rattle.text_rules.proofs.Stated.{stated-line, accepted-line}
 use Rattle.text_rules.proofs.Reading.{one-too-many, refused-there, refused-line}
 use Rattle.text_rules.proofs.Texts.{wordOfLine, wordsOf, behind-lines, accepted-text}
@@ -30,17 +31,20 @@ use Rattle.text_rules.proofs.Texts.{wordOfLine, wordsOf, behind-lines, 
 abbrev pub NoNewline : List ℕ → Type 0
 NoNewline l = All (λ (b : ℕ). b ≡ NEWLINE → ⊥) l
 
-no-letter : (b : ℕ) → isLetter b ≡ true → b ≡ NEWLINE → ⊥
-no-letter b e z = let bounds = letter-bounds b e in omega arith
+no-name : (b : ℕ) → inName b ≡ true → b ≡ NEWLINE → ⊥
+no-name b e z = false≢true (ap inName (sym z) ∙ e)
 
-no-digit : (b : ℕ) → isDigit b ≡ true → b ≡ NEWLINE → ⊥
-no-digit b e z = let bounds = digit-bounds b e in omega arith
+no-digit : (notation : Notation) (b : ℕ) → isDigit (baseOf notation) b ≡ true → b ≡ NEWLINE → ⊥
+unfolding digitOf
+no-digit decimal b e z = false≢true (ap (isDigit 10) (sym z) ∙ e)
+no-digit sevenHex b e z = false≢true (ap (isDigit 16) (sym z) ∙ e)
 
-none-in-numbers : (vs : List ℕ) → NoNewline (numbersText vs)
+none-in-numbers : (notation : Notation) (vs : List ℕ) → NoNewline (numbersText notation vs)
 unfolding flatMap
-none-in-numbers [] = tt
-none-in-numbers (v ∷ vs) =
-    (λ z. omega arith, all-append _ (decimal v) (numbersText vs) (all-map no-digit (decimal v) (decimal-says v .digits)) (none-in-numbers vs))
+none-in-numbers notation [] = tt
+none-in-numbers notation (v ∷ vs) =
+    let digits : List ℕ = digitsFor notation v in
+    (λ z. omega arith, all-append _ digits (numbersText notation vs) (all-map (no-digit notation) digits (all-digits notation v)) (none-in-numbers notation vs))
 
 -- what stands before the first newline of a text
 first-newline : (xs ys a b : List ℕ) → NoNewline xs → NoNewline ys → xs ++ NEWLINE ∷ a ≡ ys ++ NEWLINE ∷ b → xs ≡ ys
@@ -68,7 +72,7 @@ newline-there (x ∷ xs) ys h = newline-there xs ys (h .1)
 pub missing-newline : (line : List ℕ) → NoNewline line → lineOf line .refusal ≡ 0 → ⊥
 missing-newline line h e =
     let s = accepted-line line e in
-    let body : List ℕ = formAt (s .row) .name ++ numbersText (s .numbers) in
+    let body : List ℕ = formAt (s .row) .name ++ numbersText (formAt (s .row) .notation) (s .numbers) in
     let behind : List ℕ = drop (lineOf line .size) line in
     newline-there body behind (subst NoNewline (s .written ∙ append-assoc body (NEWLINE ∷ []) behind) h)
 
@@ -77,11 +81,12 @@ accepted-alone : (line rest other : List ℕ) → NoNewline line → lineOf (lin
 accepted-alone line rest other h e =
     let s = accepted-line (line ++ NEWLINE ∷ rest) e in
     let f : Form = formAt (s .row) in
-    let body : List ℕ = f .name ++ numbersText (s .numbers) in
+    let numbers : List ℕ = numbersText (f .notation) (s .numbers) in
+    let body : List ℕ = f .name ++ numbers in
     let behind : List ℕ = drop (lineOf (line ++ NEWLINE ∷ rest) .size) (line ++ NEWLINE ∷ rest) in
     let same : line ≡ body
     = first-newline line body rest behind h
-    (all-append _ (f .name) (numbersText (s .numbers)) (all-map no-letter (f .name) (every-all isLetter (f .name) (sound (s .row) (s .a-row) .letters))) (none-in-numbers (s .numbers)))
+    (all-append _ (f .name) numbers (all-map no-name (f .name) (every-all inName (f .name) (sound (s .row) (s .a-row) .named))) (none-in-numbers (f .notation) (s .numbers)))
     (s .written ∙ append-assoc body (NEWLINE ∷ []) behind) in
     ap (λ (x : List ℕ). lineOf (x ++ NEWLINE ∷ other) .refusal) same
     ∙ ap (λ (x : List ℕ). lineOf x .refusal) (sym (append-assoc body (NEWLINE ∷ []) other))
@@ -92,7 +97,7 @@ faulty-line : (line rest : List ℕ) → NoNewline line → (lineOf (line ++ NEW
     → lineOf (line ++ NEWLINE ∷ rest) ≡ lineOf (line ++ NEWLINE ∷ [])
 faulty-line line rest h isnt =
     refused-line (line ++ NEWLINE ∷ rest) (λ e. isnt (accepted-alone line rest [] h e))
-    ∙ ap (λ (x : List ℕ). refusedLine (cond (leb 25 (rowNamed x forms)) NAME OPERANDS)) (name-before line rest ∙ sym (name-before line []))
+    ∙ ap (λ (x : List ℕ). refusedLine (cond (leb 26 (rowNamed x)) NAME OPERANDS)) (name-before line rest ∙ sym (name-before line []))
     ∙ sym (refused-line (line ++ NEWLINE ∷ []) isnt)
 
 -- ---- behind good lines

@@ -14,12 +14,12 @@ use Rattle.table.specs.Decided.{decided}
 use Rattle.table.specs.Refusal.{NAME, OPERANDS}
 use Rattle.text_rules.specs.declared.Line.{Line}
 use Rattle.text_rules.specs.Letters.{s}
-use Rattle.text_rules.specs.Forms.{forms, formAt, rowNamed}
+use Rattle.text_rules.specs.Forms.{firstRow, formAt, rowNamed}
 use Rattle.text_rules.specs.Front.{frontWhile}
-use Rattle.text_rules.specs.Number.{saysBelow}
+use Rattle.text_rules.specs.Number.{digitOf, saysBelow, decimalIn}
 use Rattle.text_rules.specs.Line.{inName, nameIn, operandsIn, refusedLine, lineOf}
 use Rattle.text_rules.specs.Text.{refusedText, readFrom, readTextOf, bytesToRead}
-use Rattle.text_rules.proofs.Written.{decimalIn, lineText}
+use Rattle.text_rules.specs.Listing.{lineText}
 use Rattle.text_rules.proofs.Fronts.{front-cut}
 use Rattle.text_rules.proofs.Rows.{sound}
 use Rattle.text_rules.proofs.Stated.{found, stated-line, accepted-line}
@@ -29,24 +29,24 @@ use Rattle.text_rules.proofs.Reading.{one-too-many, refused-there, goes
 -- ---- the name of a text that is cut
 
 -- a name of more than six bytes is no row's
-long-name : (name : List ℕ) → 6 < length name → leb 25 (rowNamed name forms) ≡ true
-long-name name h = by (leb 25 (rowNamed name forms)) refl
+long-name : (name : List ℕ) → 6 < length name → leb 26 (rowNamed name) ≡ true
+long-name name h = by (leb 26 (rowNamed name)) refl
   where
-    by : (t : Bool) → leb 25 (rowNamed name forms) ≡ t → leb 25 (rowNamed name forms) ≡ true
+    by : (t : Bool) → leb 26 (rowNamed name) ≡ t → leb 26 (rowNamed name) ≡ true
     by true e = e
     by false e =
-        let row = leb-false 25 (rowNamed name forms) e in
-        absurd (omega (arith, ap length (found name forms (formAt 25) row), sound (rowNamed name forms) row .short))
+        let row = leb-false 26 (rowNamed name) e in
+        absurd (omega (arith, ap length (found name row), sound (rowNamed name) row .short))
 
 -- so whether it is one's is seen from seven bytes
-cut-row : (n : ℕ) (name : List ℕ) → 6 < n → leb 25 (rowNamed (take n name) forms) ≡ leb 25 (rowNamed name forms)
+cut-row : (n : ℕ) (name : List ℕ) → 6 < n → leb 26 (rowNamed (take n name)) ≡ leb 26 (rowNamed name)
 cut-row n name h = by (ltb n (length name)) refl
   where
-    by : (t : Bool) → ltb n (length name) ≡ t → leb 25 (rowNamed (take n name) forms) ≡ leb 25 (rowNamed name forms)
+    by : (t : Bool) → ltb n (length name) ≡ t → leb 26 (rowNamed (take n name)) ≡ leb 26 (rowNamed name)
     by true e =
         let more = ltb-true n (length name) e in
         long-name (take n name) (omega (arith, length-take-le n name (omega arith))) ∙ sym (long-name name (omega arith))
-    by false e = ap (λ (x : List ℕ). leb 25 (rowNamed x forms)) (take-all n name (ltb-false n (length name) e))
+    by false e = ap (λ (x : List ℕ). leb 26 (rowNamed x)) (take-all n name (ltb-false n (length name) e))
 
 -- ---- a line that is cut
 
@@ -89,7 +89,7 @@ cut-refused n text h isnt =
     (λ cut-isnt.
     refused-line (take n text) cut-isnt
     ∙ ap (λ (t : Bool). refusedLine (cond t NAME OPERANDS))
-    (ap (λ (x : List ℕ). leb 25 (rowNamed x forms)) (front-cut inName n text) ∙ cut-row n (nameIn text) (omega arith))
+    (ap (λ (x : List ℕ). leb 26 (rowNamed x)) (front-cut inName n text) ∙ cut-row n (nameIn text) (omega arith))
     ∙ sym (refused-line text isnt))
 
 -- ---- a text that is cut
@@ -141,5 +141,5 @@ longestText = flatMap (λ (line : List ℕ). line) (replicate 64 (lineText (form
 
 -- of this text one byte fewer is accepted, and the text is refused
 pub no-fewer-bytes : (readTextOf (take (bytesToRead - 1) longestText) .refusal ≡ 0) × (readTextOf longestText .refusal ≡ 13)
-unfolding lineOf frontWhile operandsIn saysBelow rowNamed decided readFrom flatMap decimalIn
+unfolding lineOf frontWhile operandsIn digitOf saysBelow firstRow decided readFrom flatMap decimalIn
 no-fewer-bytes = (refl, refl)

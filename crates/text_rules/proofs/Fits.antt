@@ -10,8 +10,8 @@ use lib.ListN.{length, drop, length-drop}
 use Rattle.table.proofs.Decided.{none-refused, passes, ends}
 use Rattle.text_rules.specs.declared.Operands.{Operands}
 use Rattle.text_rules.specs.declared.Line.{Line}
-use Rattle.text_rules.specs.Forms.{Operand, forms, formAt, rowNamed}
-use Rattle.text_rules.specs.Number.{isDigit, digitsIn, numberOf, saysBelow}
+use Rattle.text_rules.specs.Forms.{Operand, formAt, rowNamed}
+use Rattle.text_rules.specs.Number.{Notation, baseOf, isDigit, digitsIn, numberOf, saysBelow}
 use Rattle.text_rules.specs.Line.{SPACE, NEWLINE, beginsWith, inName, nameIn, notStated, operandsIn, behindName, acceptedLine, lineOf}
 use Rattle.text_rules.proofs.Fronts.{front-fits}
 use Rattle.text_rules.proofs.Rows.{both}
@@ -28,49 +28,52 @@ stated-by true x e = (refl, refl)
 stated-by false x e = absurd (false≢true e)
 
 -- behind the last one is a newline
-pub last-stated : (word size : ℕ) (l : List ℕ) → operandsIn [] word size l .stated ≡ true
-    → (l ≡ NEWLINE ∷ drop 1 l) × (operandsIn [] word size l ≡ record { stated = true; word = word; size = size + 1 })
+pub last-stated : (notation : Notation) (word size : ℕ) (l : List ℕ) → operandsIn notation [] word size l .stated ≡ true
+    → (l ≡ NEWLINE ∷ drop 1 l) × (operandsIn notation [] word size l ≡ record { stated = true; word = word; size = size + 1 })
 unfolding operandsIn
-last-stated word size l e = let s = stated-by _ _ e in (begun NEWLINE l (s .0), s .1)
+last-stated notation word size l e = let s = stated-by _ _ e in (begun NEWLINE l (s .0), s .1)
 
 -- the first one is a space and digits that say a number below its limit, and the others stand behind them
-pub record FirstStated (o : Operand) (os : List Operand) (word size : ℕ) (l : List ℕ) : Type 0 where
+pub record FirstStated (notation : Notation) (o : Operand) (os : List Operand) (word size : ℕ) (l : List ℕ) : Type 0 where
   pub spaced : l ≡ SPACE ∷ drop 1 l
-  pub says : saysBelow (o .limit) (digitsIn (drop 1 l)) ≡ true
-  pub others : operandsIn (o ∷ os) word size l
-      ≡ operandsIn os (word + numberOf (digitsIn (drop 1 l)) * 2 ^ (o .place)) (size + 1 + length (digitsIn (drop 1 l))) (drop (1 + length (digitsIn (drop 1 l))) l)
+  pub says : saysBelow notation (o .limit) (digitsIn (baseOf notation) (drop 1 l)) ≡ true
+  pub others : (let digits = digitsIn (baseOf notation) (drop 1 l) in
+      operandsIn notation (o ∷ os) word size l
+      ≡ operandsIn notation os (word + numberOf (baseOf notation) digits * 2 ^ (o .place)) (size + 1 + length digits) (drop (1 + length digits) l))
 
 -- which is so wherever they are as stated
-pub first-stated : (o : Operand) (os : List Operand) (word size : ℕ) (l : List ℕ) → operandsIn (o ∷ os) word size l .stated ≡ true → FirstStated o os word size l
+pub first-stated : (notation : Notation) (o : Operand) (os : List Operand) (word size : ℕ) (l : List ℕ) → operandsIn notation (o ∷ os) word size l .stated ≡ true
+    → FirstStated notation o os word size l
 unfolding operandsIn
-first-stated o os word size l e =
+first-stated notation o os word size l e =
     let s = stated-by _ _ e in
-    let two = both (beginsWith SPACE l) (saysBelow (o .limit) (digitsIn (drop 1 l))) (s .0) in
+    let two = both (beginsWith SPACE l) (saysBelow notation (o .limit) (digitsIn (baseOf notation) (drop 1 l))) (s .0) in
     record { spaced = begun SPACE l (two .0); says = two .1; others = s .1 }
 
-operands-fit : (os : List Operand) (word size : ℕ) (l : List ℕ) → operandsIn os word size l .stated ≡ true
-    → (size < operandsIn os word size l .size) × (operandsIn os word size l .size ≤ size + length l)
-operands-fit [] word size l e =
-    let s = last-stated word size l e in
+operands-fit : (notation : Notation) (os : List Operand) (word size : ℕ) (l : List ℕ) → operandsIn notation os word size l .stated ≡ true
+    → (size < operandsIn notation os word size l .size) × (operandsIn notation os word size l .size ≤ size + length l)
+operands-fit notation [] word size l e =
+    let s = last-stated notation word size l e in
     let some : length l ≡ suc (length (drop 1 l)) = ap length (s .0) in
-    let end : operandsIn [] word size l .size ≡ size + 1 = ap (λ (o : Operands). o .size) (s .1) in
+    let end : operandsIn notation [] word size l .size ≡ size + 1 = ap (λ (o : Operands). o .size) (s .1) in
     (omega arith, omega arith)
-operands-fit (o ∷ os) word size l e =
-    let s = first-stated o os word size l e in
-    let digits : List ℕ = digitsIn (drop 1 l) in
+operands-fit notation (o ∷ os) word size l e =
+    let s = first-stated notation o os word size l e in
+    let base : ℕ = baseOf notation in
+    let digits : List ℕ = digitsIn base (drop 1 l) in
     let some : length l ≡ suc (length (drop 1 l)) = ap length (s .spaced) in
-    let rest = operands-fit os (word + numberOf digits * 2 ^ (o .place)) (size + 1 + length digits) (drop (1 + length digits) l)
+    let rest = operands-fit notation os (word + numberOf base digits * 2 ^ (o .place)) (size + 1 + length digits) (drop (1 + length digits) l)
     (sym (ap (λ (o : Operands). o .stated) (s .others)) ∙ e) in
     let end = ap (λ (o : Operands). o .size) (s .others) in
-    (omega (arith, rest .0, end), omega (arith, rest .1, end, front-fits isDigit (drop 1 l), length-drop (1 + length digits) l))
+    (omega (arith, rest .0, end), omega (arith, rest .1, end, front-fits (isDigit base) (drop 1 l), length-drop (1 + length digits) l))
 
 -- ---- a line that is accepted
 
 -- its name is a row's, what stands behind it is as stated, and that is its answer
 pub record Taken (l : List ℕ) : Type 0 where
-  pub named : rowNamed (nameIn l) forms < 25
-  pub stated : behindName (formAt (rowNamed (nameIn l) forms)) (nameIn l) l .stated ≡ true
-  pub answer : (let said = behindName (formAt (rowNamed (nameIn l) forms)) (nameIn l) l in lineOf l ≡ acceptedLine (said .word) (said .size))
+  pub named : rowNamed (nameIn l) < 26
+  pub stated : behindName (formAt (rowNamed (nameIn l))) (nameIn l) l .stated ≡ true
+  pub answer : (let said = behindName (formAt (rowNamed (nameIn l))) (nameIn l) l in lineOf l ≡ acceptedLine (said .word) (said .size))
 
 -- which is so wherever the line is not refused
 pub taken : (l : List ℕ) → lineOf l .refusal ≡ 0 → Taken l
@@ -78,7 +81,7 @@ unfolding lineOf
 taken l e =
     let passed = none-refused _ _ (λ (x : Line). x .refusal) refl e in
     record {
-      named = leb-false 25 _ (passed .0);
+      named = leb-false 26 _ (passed .0);
       stated = not-false _ (passed .1 .0);
       answer = sym (passes _ _ _ (passed .0) (passes _ _ _ (passed .1 .0) ends));
     }
@@ -88,7 +91,7 @@ pub line-fits : (l : List ℕ) → lineOf l .refusal ≡ 0 → (0 < lineOf l .si
 line-fits l e =
     let t = taken l e in
     let name = nameIn l in
-    let f = formAt (rowNamed name forms) in
-    let fit = operands-fit (f .operands) (f .word) (length name) (drop (length name) l) (t .stated) in
+    let f = formAt (rowNamed name) in
+    let fit = operands-fit (f .notation) (f .operands) (f .word) (length name) (drop (length name) l) (t .stated) in
     let size = ap (λ (x : Line). x .size) (t .answer) in
     (omega (arith, fit .0, size), omega (arith, fit .1, size, front-fits inName l, length-drop (length name) l))

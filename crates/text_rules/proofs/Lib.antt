@@ -5,8 +5,9 @@ pub mod Positional
 pub mod Rows
 pub mod Fits
 pub mod Words
-pub mod SameWord
 pub mod Limits
+pub mod Giving
+pub mod Unnamed
 pub mod Numerals
 pub mod Stated
 pub mod Longest
@@ -14,4 +15,5 @@ pub mod Reading
 pub mod FirstBytes
 pub mod Texts
 pub mod FaultyLines
+pub mod Listings
 pub mod Theorems

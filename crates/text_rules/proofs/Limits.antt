@@ -3,7 +3,7 @@
 -- Assumes nothing.
 use Prim.Native.Nat.{ℕ, zero, suc, _+_, _-_, _*_, _^_, _≤_, _<_}
 use mathlib.Core.Path.{_≡_, refl, sym, ap, subst, _∙_}
-use mathlib.Core.Bool.{true}
+use mathlib.Core.Bool.{Bool, true, false, cond}
 use mathlib.Core.List.{List, [], _∷_, _++_}
 use native.Mathlib.Omega.{arith}
 use native.Mathlib.Nat.{mul-le-mul-right}
@@ -19,8 +19,8 @@ use Rattle.job_rules.specs.Write.{sizeOrRefusal, writeOf}
 use Rattle.text_rules.specs.declared.Operands.{Operands}
 use Rattle.text_rules.specs.declared.Line.{Line}
 use Rattle.text_rules.specs.declared.ReadText.{ReadText}
-use Rattle.text_rules.specs.Forms.{Operand, forms, formAt, rowNamed}
-use Rattle.text_rules.specs.Number.{isNumeral, digitsIn, numberOf, saysBelow}
+use Rattle.text_rules.specs.Forms.{Operand, formAt, rowNamed}
+use Rattle.text_rules.specs.Number.{Notation, baseOf, isNumeral, digitsIn, numberOf, saysBelow}
 use Rattle.text_rules.specs.Line.{nameIn, operandsIn, lineOf}
 use Rattle.text_rules.specs.Text.{acceptedText, refusedText, readFrom, mostLines, readTextOf}
 use Rattle.text_rules.proofs.Fronts.{all-append}
@@ -30,32 +30,34 @@ use Rattle.text_rules.proofs.Fits.{last-stated, first-stated, taken}
 
 -- ---- a line
 
-pub says-below : (limit : ℕ) (digits : List ℕ) → saysBelow limit digits ≡ true → numberOf digits < limit
+pub says-below : (notation : Notation) (limit : ℕ) (digits : List ℕ) → saysBelow notation limit digits ≡ true → numberOf (baseOf notation) digits < limit
 unfolding saysBelow
-says-below limit digits e = ltb-true _ _ (both (isNumeral digits) (ltb (numberOf digits) limit) e .1)
+says-below notation limit digits e = ltb-true _ _ (both (isNumeral notation digits) (ltb (numberOf (baseOf notation) digits) limit) e .1)
 
 -- a number below its operand's limit adds no more than the largest one
 pub adds-at-most : (o : Operand) (v : ℕ) → v < o .limit → v * 2 ^ (o .place) ≤ (o .limit - 1) * 2 ^ (o .place)
 adds-at-most o v h = mul-le-mul-right (2 ^ (o .place)) (omega arith)
 
-operands-add : (os : List Operand) (word size : ℕ) (l : List ℕ) → operandsIn os word size l .stated ≡ true → operandsIn os word size l .word ≤ word + most os
-operands-add [] word size l e =
-    let end : operandsIn [] word size l .word ≡ word = ap (λ (o : Operands). o .word) (last-stated word size l e .1) in
+operands-add : (notation : Notation) (os : List Operand) (word size : ℕ) (l : List ℕ) → operandsIn notation os word size l .stated ≡ true
+    → operandsIn notation os word size l .word ≤ word + most os
+operands-add notation [] word size l e =
+    let end : operandsIn notation [] word size l .word ≡ word = ap (λ (o : Operands). o .word) (last-stated notation word size l e .1) in
     omega arith
-operands-add (o ∷ os) word size l e =
-    let s = first-stated o os word size l e in
-    let digits : List ℕ = digitsIn (drop 1 l) in
-    let rest = operands-add os (word + numberOf digits * 2 ^ (o .place)) (size + 1 + length digits) (drop (1 + length digits) l)
+operands-add notation (o ∷ os) word size l e =
+    let s = first-stated notation o os word size l e in
+    let base : ℕ = baseOf notation in
+    let digits : List ℕ = digitsIn base (drop 1 l) in
+    let rest = operands-add notation os (word + numberOf base digits * 2 ^ (o .place)) (size + 1 + length digits) (drop (1 + length digits) l)
     (sym (ap (λ (o : Operands). o .stated) (s .others)) ∙ e) in
-    omega (arith, rest, ap (λ (o : Operands). o .word) (s .others), adds-at-most o (numberOf digits) (says-below (o .limit) digits (s .says)))
+    omega (arith, rest, ap (λ (o : Operands). o .word) (s .others), adds-at-most o (numberOf base digits) (says-below notation (o .limit) digits (s .says)))
 
 -- The word of a line that is accepted is below 2^25.
 pub line-word : (l : List ℕ) → lineOf l .refusal ≡ 0 → lineOf l .word < 2 ^ 25
 line-word l e =
     let t = taken l e in
-    let f = formAt (rowNamed (nameIn l) forms) in
-    let added = operands-add (f .operands) (f .word) (length (nameIn l)) (drop (length (nameIn l)) l) (t .stated) in
-    omega (arith, added, ap (λ (x : Line). x .word) (t .answer), sound (rowNamed (nameIn l) forms) (t .named) .room)
+    let f = formAt (rowNamed (nameIn l)) in
+    let added = operands-add (f .notation) (f .operands) (f .word) (length (nameIn l)) (drop (length (nameIn l)) l) (t .stated) in
+    omega (arith, added, ap (λ (x : Line). x .word) (t .answer), sound (rowNamed (nameIn l)) (t .named) .room)
 
 -- ---- a text
 
@@ -111,12 +113,23 @@ refused-zeros =
 
 -- ---- the writer of job files
 
-below-is-good : (ws : List ℕ) → AllBelow (2 ^ 25) ws → firstBad ws ≡ length ws
+pub below-is-good : (ws : List ℕ) → AllBelow (2 ^ 25) ws → firstBad ws ≡ length ws
 unfolding firstBad
 below-is-good [] h = refl
 below-is-good (w ∷ ws) h = rw (lt-ltb w (2 ^ 25) (h .0)) (ap suc (below-is-good ws (h .1)))
 
-words-count : (l : List ℕ) → length (wordsRead (readTextOf l)) ≡ readTextOf l .n .0
+-- and the other way round
+pub good-is-below : (ws : List ℕ) → length ws ≤ firstBad ws → AllBelow (2 ^ 25) ws
+unfolding firstBad
+good-is-below [] e = tt
+good-is-below (w ∷ ws) e = by (ltb w (2 ^ 25)) refl e (λ rest. good-is-below ws rest)
+  where
+    by : (t : Bool) → ltb w (2 ^ 25) ≡ t → suc (length ws) ≤ cond t (suc (firstBad ws)) 0 → (length ws ≤ firstBad ws → AllBelow (2 ^ 25) ws)
+        → AllBelow (2 ^ 25) (w ∷ ws)
+    by true f g rest = (ltb-true w (2 ^ 25) f, rest (omega arith))
+    by false f g rest = absurd (omega arith)
+
+pub words-count : (l : List ℕ) → length (wordsRead (readTextOf l)) ≡ readTextOf l .n .0
 words-count =
     every-answer (λ (t : ReadText). length (wordsRead t) ≡ t .n .0) (λ _ _ _. refl)
     (λ words _ _. ap length (take-append-seam words (replicate (64 - length words) 0)))

@@ -12,7 +12,7 @@ use lib.ListN.{length, drop}
 use Rattle.table.specs.Decided.{decided}
 use Rattle.table.specs.Refusal.{NAME, OPERANDS, LINES}
 use Rattle.table.proofs.Decided.{stops, passes, ends, denied, not-denied}
-use Rattle.text_rules.specs.Forms.{forms, rowNamed}
+use Rattle.text_rules.specs.Forms.{rowNamed}
 use Rattle.text_rules.specs.Line.{nameIn, acceptedLine, refusedLine, lineOf}
 use Rattle.text_rules.specs.Text.{acceptedText, refusedText, readFrom}
 use Rattle.text_rules.proofs.Fits.{line-fits}
@@ -64,6 +64,6 @@ refused-by false true word size isnt = refl
 refused-by false false word size isnt = absurd (isnt refl)
 
 -- is refused for its name where that is no row's, and else for what stands behind it
-pub refused-line : (l : List ℕ) → (lineOf l .refusal ≡ 0 → ⊥) → lineOf l ≡ refusedLine (cond (leb 25 (rowNamed (nameIn l) forms)) NAME OPERANDS)
+pub refused-line : (l : List ℕ) → (lineOf l .refusal ≡ 0 → ⊥) → lineOf l ≡ refusedLine (cond (leb 26 (rowNamed (nameIn l))) NAME OPERANDS)
 unfolding lineOf
 refused-line l isnt = refused-by _ _ _ _ isnt

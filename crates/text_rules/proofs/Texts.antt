@@ -13,7 +13,8 @@ use Rattle.text_rules.specs.declared.ReadText.{ReadText}
 use Rattle.text_rules.specs.Forms.{formAt}
 use Rattle.text_rules.specs.Line.{lineOf}
 use Rattle.text_rules.specs.Text.{acceptedText, readFrom, readTextOf}
-use Rattle.text_rules.proofs.Written.{Below, wordOf, lineText}
+use Rattle.text_rules.specs.Listing.{lineText}
+use Rattle.text_rules.proofs.Written.{Below, wordOf}
 use Rattle.text_rules.proofs.Stated.{stated-line, accepted-line}
 use Rattle.text_rules.proofs.Reading.{at-end, one-too-many, refused-there, goes-on, either}
 
@@ -23,7 +24,7 @@ use Rattle.text_rules.proofs.Reading.{at-end, one-too-many, refused-the
 pub record WrittenLine : Type 0 where
   pub row : ℕ
   pub numbers : List ℕ
-  pub a-row : row < 25
+  pub a-row : row < 26
   pub below : Below (formAt row .operands) numbers
 
 abbrev pub bytesOf : WrittenLine → List ℕ

@@ -20,7 +20,8 @@ use Rattle.table.proofs.Rows.{li-word, multiply-word, short-word}
 use Rattle.table.proofs.Theorems.{nop?}
 use Rattle.table.proofs.Assembled.{together, liWord, li-fields, multiplyWord, multiply-fields, shortWord, short-fields}
 use Rattle.text_rules.specs.Forms.{Operand, rd, index, immediate, rs1, rs2, rs3, formAt}
-use Rattle.text_rules.proofs.Written.{Below, put, wordOf}
+use Rattle.text_rules.specs.Listing.{put}
+use Rattle.text_rules.proofs.Written.{Below, wordOf}
 use Rattle.text_rules.proofs.Rows.{both, every, agree}
 
 -- ---- li
@@ -41,13 +42,13 @@ li-words d i m hd hi hm =
 -- ---- the multiply family
 
 -- the words of its eight rows, in the order of their bits, and the operands that all of them have
-multiply-base : (k : ℕ) → k < 8 → formAt (1 + k) .word ≡ 0x1000000 + k * 0x100000
+pub multiply-base : (k : ℕ) → k < 8 → formAt (1 + k) .word ≡ 0x1000000 + k * 0x100000
 multiply-base = agree 8 (λ (k : ℕ). formAt (1 + k) .word) (λ (k : ℕ). 0x1000000 + k * 0x100000) refl
 
-abbrev four : List Operand
+abbrev pub four : List Operand
 four = rd ∷ rs1 ∷ rs2 ∷ rs3 ∷ []
 
-multiply-operands : (k : ℕ) → k < 8 → formAt (1 + k) .operands ≡ four
+pub multiply-operands : (k : ℕ) → k < 8 → formAt (1 + k) .operands ≡ four
 multiply-operands = agree 8 (λ (k : ℕ). formAt (1 + k) .operands) (λ (_ : ℕ). four) refl
 
 pub record IsMultiply (w long subtract high d s1 s2 s3 : ℕ) : Type 0 where
@@ -125,13 +126,13 @@ one-each (o ∷ os) (v ∷ vs) b = ap suc (one-each os vs (b .1))
 -- ---- the sixteen short codes
 
 -- the word of each; and its operands, at most three, are in rd, rs1 and rs2
-short-base : (code : ℕ) → code < 16 → formAt (9 + code) .word ≡ 0x1800000 + code * 0x8000
+pub short-base : (code : ℕ) → code < 16 → formAt (9 + code) .word ≡ 0x1800000 + code * 0x8000
 short-base = agree 16 (λ (code : ℕ). formAt (9 + code) .word) (λ (code : ℕ). 0x1800000 + code * 0x8000) refl
 
 short-in-fields : (code : ℕ) → code < 16 → inFields 0 (formAt (9 + code) .operands) ≡ true
 short-in-fields = agree 16 (λ (code : ℕ). inFields 0 (formAt (9 + code) .operands)) (λ (_ : ℕ). true) refl
 
-short-few : (code : ℕ) → code < 16 → leb (length (formAt (9 + code) .operands)) 3 ≡ true
+pub short-few : (code : ℕ) → code < 16 → leb (length (formAt (9 + code) .operands)) 3 ≡ true
 short-few = agree 16 (λ (code : ℕ). leb (length (formAt (9 + code) .operands)) 3) (λ (_ : ℕ). true) refl
 
 up-to-three : (vs : List ℕ) → length vs ≤ 3 → packed vs ≡ packed (getD vs 0 0 ∷ getD vs 1 0 ∷ getD vs 2 0 ∷ [])
@@ -201,7 +202,7 @@ pub for-listed : (os : List Operand) (P : List ℕ → Type 0) → ((vs : List �
 for-listed os P each vs b = let e = all-listed os vs b in subst P e (each vs (subst (Below os) (sym e) b))
 
 -- a row is li's, one of the multiply family or a short code's
-of-three-kinds : (P : ℕ → Type 0) → P 0 → ((k : ℕ) → k < 8 → P (1 + k)) → ((code : ℕ) → code < 16 → P (9 + code)) → (row : ℕ) → row < 25 → P row
+pub of-three-kinds : (P : ℕ → Type 0) → P 0 → ((k : ℕ) → k < 8 → P (1 + k)) → ((code : ℕ) → code < 16 → P (9 + code)) → (row : ℕ) → row < 25 → P row
 of-three-kinds P first multiply short zero h = first
 of-three-kinds P first multiply short (suc k) h = go (ltb k 8) refl
   where

@@ -1,11 +1,13 @@
--- The 25 forms of a line: its name, its word and its operands, in document 02's words and in the order of document 01's table.
+-- The forms of a line: its name, its word and its operands, in document 02's words. First the 25 of the instructions, in the order of document 01's table; then `.word`.
 -- Assumes nothing.
-use Prim.Native.Nat.{ℕ, suc}
+use Prim.Native.Nat.{ℕ, suc, _^_}
 use mathlib.Core.Bool.{Bool, true, false, cond, _&&_}
-use mathlib.Core.List.{List, [], _∷_}
+use mathlib.Core.List.{List, [], _∷_, _++_}
 use lib.Dec.{eqb}
 use lib.ListN.{getD}
-use Rattle.text_rules.specs.Letters.{a, b, c, d, f, h, i, l, m, n, o, p, r, s, t, u, w, x, z}
+use Rattle.text_rules.specs.Letters.{a, b, c, d, f, h, i, l, m, n, o, p, r, s, t, u, w, x, z, dot}
+use Rattle.text_rules.specs.Number.{Notation}
+use Rattle.text_rules.specs.Number.Notation.{decimal, sevenHex}
 
 -- an operand: it is a number below its limit, and its lowest bit stands at that place of the word
 pub record Operand : Type 0 where
@@ -42,14 +44,18 @@ places = operand 16 10
 abbrev pub factor : Operand
 factor = operand 32 10
 
--- a line of the table: a name, the word with every operand zero, and the operands in the order in which they are written
+-- a line of the table: a name, the word with every operand zero, the operands in the order in which they are written, and how their numbers are written
 pub record Form : Type 0 where
   pub name : List ℕ
   pub word : ℕ
   pub operands : List Operand
+  pub notation : Notation
 
+-- ---- the instructions
+
+-- "decimal numbers"
 abbrev form : List ℕ → ℕ → List Operand → Form
-form name word operands = record { name = name; word = word; operands = operands }
+form name word operands = record { name = name; word = word; operands = operands; notation = decimal }
 
 -- "`li rd index imm`; the multiply family as document 001 names it ... with rd rs1 rs2 rs3; the others by 004's names with rd rs1 rs2. cntih, bcw and clzw take
 -- rd rs1; shrhi takes rd rs1 and 0 to 15; mlhcu rd rs1 and 0 to 31; nop nothing. Fields not named are zero"
@@ -82,7 +88,25 @@ forms =
     ∷ form (s ∷ f ∷ h ∷ s ∷ []) 0x1878000 (rd ∷ rs1 ∷ rs2 ∷ [])
     ∷ []
 
--- ---- a form by its name
+-- ---- any word
+
+-- "`.word`, a space and seven upper-case hex digits"; "for every word below 2^25": its one operand is the whole word
+abbrev pub wordForm : Form
+wordForm = record { name = dot ∷ w ∷ o ∷ r ∷ d ∷ []; word = 0; operands = operand (2 ^ 25) 0 ∷ []; notation = sevenHex }
+
+abbrev pub everyForm : List Form
+everyForm = forms ++ wordForm ∷ []
+
+-- ---- a form by its row
+
+-- the first row that passes a test, from 0, or the number of rows where none does
+unfoldable pub firstRow : (Form → Bool) → List Form → ℕ
+firstRow test [] = 0
+firstRow test (f ∷ fs) = cond (test f) 0 (suc (firstRow test fs))
+
+-- that row; beyond the last one a form of nothing, which no answer shows
+abbrev pub formAt : ℕ → Form
+formAt row = getD everyForm row (form [] 0 [])
 
 -- whether two texts have the same bytes
 abbrev pub sameBytes : List ℕ → List ℕ → Bool
@@ -91,11 +115,6 @@ sameBytes [] (y ∷ ys) = false
 sameBytes (x ∷ xs) [] = false
 sameBytes (x ∷ xs) (y ∷ ys) = eqb x y && sameBytes xs ys
 
--- the row that has this name, from 0, or the number of rows where none has
-unfoldable pub rowNamed : List ℕ → List Form → ℕ
-rowNamed name [] = 0
-rowNamed name (f ∷ fs) = cond (sameBytes name (f .name)) 0 (suc (rowNamed name fs))
-
--- that row; beyond the last one a form of nothing, which no answer shows
-abbrev pub formAt : ℕ → Form
-formAt row = getD forms row (form [] 0 [])
+-- the row that has this name
+abbrev pub rowNamed : List ℕ → ℕ
+rowNamed name = firstRow (λ (f : Form). sameBytes name (f .name)) everyForm

@@ -1,4 +1,4 @@
--- The lower-case letters of which names are made, each as its ASCII code, so that a name can be read as it is written.
+-- The lower-case letters of which names are made, and the full stop, each as its ASCII code, so that a name can be read as it is written.
 -- Assumes nothing.
 use Prim.Native.Nat.{ℕ}
 
@@ -58,3 +58,6 @@ x = 120
 
 abbrev pub z : ℕ
 z = 122
+
+abbrev pub dot : ℕ
+dot = 46

@@ -9,9 +9,9 @@ use Rattle.table.specs.Decided.{decided}
 use Rattle.table.specs.Refusal.{NAME, OPERANDS}
 use Rattle.text_rules.specs.declared.Operands.{Operands}
 use Rattle.text_rules.specs.declared.Line.{Line}
-use Rattle.text_rules.specs.Forms.{Operand, Form, forms, formAt, rowNamed}
+use Rattle.text_rules.specs.Forms.{Operand, Form, everyForm, formAt, rowNamed}
 use Rattle.text_rules.specs.Front.{frontWhile}
-use Rattle.text_rules.specs.Number.{digitsIn, numberOf, saysBelow}
+use Rattle.text_rules.specs.Number.{Notation, baseOf, digitsIn, numberOf, saysBelow}
 
 -- ASCII codes
 abbrev pub SPACE : ℕ
@@ -43,17 +43,18 @@ notStated = record { stated = false; word = 0; size = 0 }
 
 -- "single spaces, decimal numbers without leading zeros", "ended by a newline": for each operand one space and its number, which is put at its place in the word; then
 -- a newline. `word` is the line's word so far, `size` what of the line is passed, and `l` what follows
-unfoldable pub operandsIn : List Operand → ℕ → ℕ → List ℕ → Operands
-operandsIn [] word size l = cond (beginsWith NEWLINE l) (record { stated = true; word = word; size = size + 1 }) notStated
-operandsIn (o ∷ os) word size l =
-    let digits : List ℕ = digitsIn (drop 1 l) in
-    cond (beginsWith SPACE l && saysBelow (o .limit) digits)
-    (operandsIn os (word + numberOf digits * 2 ^ (o .place)) (size + 1 + length digits) (drop (1 + length digits) l))
+unfoldable pub operandsIn : Notation → List Operand → ℕ → ℕ → List ℕ → Operands
+operandsIn notation [] word size l = cond (beginsWith NEWLINE l) (record { stated = true; word = word; size = size + 1 }) notStated
+operandsIn notation (o ∷ os) word size l =
+    let base : ℕ = baseOf notation in
+    let digits : List ℕ = digitsIn base (drop 1 l) in
+    cond (beginsWith SPACE l && saysBelow notation (o .limit) digits)
+    (operandsIn notation os (word + numberOf base digits * 2 ^ (o .place)) (size + 1 + length digits) (drop (1 + length digits) l))
     notStated
 
 -- behind the name of a form
 abbrev pub behindName : Form → List ℕ → List ℕ → Operands
-behindName f name l = operandsIn (f .operands) (f .word) (length name) (drop (length name) l)
+behindName f name l = operandsIn (f .notation) (f .operands) (f .word) (length name) (drop (length name) l)
 
 -- ---- the line
 
@@ -64,14 +65,15 @@ acceptedLine word size = record { refusal = 0; word = word; size = size }
 abbrev pub refusedLine : ℕ → Line
 refusedLine number = record { refusal = number; word = 0; size = 0 }
 
--- "11 where the text up to the first space, newline or end is no name, 12 where anything after the name is not as stated, a missing last newline among it"
+-- "11 where the text up to the first space, newline or end is no name, 12 where anything after the name is not as stated, a missing last newline among it"; "12 for a
+-- `.word` line with other digits or a word of 2^25 or more"
 unfoldable pub lineOf : List ℕ → Line
 lineOf l =
     let name : List ℕ = nameIn l in
-    let row : ℕ = rowNamed name forms in
+    let row : ℕ = rowNamed name in
     let said : Operands = behindName (formAt row) name l in
     decided
-    ((leb (length forms) row, refusedLine NAME)
+    ((leb (length everyForm) row, refusedLine NAME)
     ∷ (not (said .stated), refusedLine OPERANDS)
     ∷ [])
     (acceptedLine (said .word) (said .size))

@@ -1,8 +1,8 @@
 // For each text file named as an argument: its name on a line, and then `WORDS` with the number of words and these, a line each; or `REFUSED` with the number and the line.
 
-use console::input::read_named;
+use console::arguments::print_argument;
+use console::arguments::read_argument;
 use console::output::print;
-use console::output::say_unreadable;
 use console::output::write_number;
 use console::output::write_refused_line;
 use libc::STDOUT_FILENO;
@@ -37,27 +37,17 @@ fn print_text(text: &[u8]) {
     print_words(&words[..n]);
 }
 
-fn print_named(name: &[u8]) {
+fn print_file(number: usize) {
+    print_argument(number);
     let mut text = [0u8; BYTES_TO_READ];
-    let came = read_named(name, &mut text);
+    let came = read_argument(number, &mut text);
     if came.failed {
-        say_unreadable(name);
         return;
     }
     let size = came.size;
     print_text(&text[..size]);
 }
 
-// Of an argument that is longer than any path nothing is known but that it names no file: its line is empty.
-fn print_file(number: usize) {
-    let mut name = io::buffer();
-    let length = os::arg(number, &mut name);
-    print(&name[..length]);
-    print(b"\n");
-    print_named(&name[..length]);
-}
-
-// Argument 0 is the program's own name.
 fn main() {
     let count = os::arg_count();
     let mut number = 1;

@@ -1,17 +1,14 @@
 // Reads a job from standard input, and prints its trace or the number that it is refused with.
 
-use console::input::read_open;
+use console::input::read_input;
 use console::output::print_front;
-use console::output::say;
-use libc::STDIN_FILENO;
-use trace_text::BYTES_TO_READ;
+use job_reader::BYTES_TO_READ;
 use trace_text::whole_text;
 
 fn main() {
     let mut file = [0u8; BYTES_TO_READ];
-    let came = read_open(STDIN_FILENO, &mut file);
+    let came = read_input(&mut file);
     if came.failed {
-        say(b"UNREADABLE\n");
         return;
     }
     let size = came.size;

@@ -13,6 +13,6 @@ pub use Rattle.unit_rules.proofs.Calls.{ran, well-made-after}
 pub use Rattle.unit_rules.proofs.Theorems.{fresh-drained}
 pub use Rattle.trace_rules.specs.RowOfCycle.{shownOf}
 unfoldable pub use Rattle.trace_rules.specs.RowOfCycle.{shownBy}
-pub use Rattle.trace_rules.specs.JobText.{mostCycles, cyclesLeft, writeTextOf, textFor, largestText, wholeTextOf, bytesToRead}
+pub use Rattle.trace_rules.specs.JobText.{mostCycles, cyclesLeft, writeTextOf, textFor, largestText, wholeTextOf}
 unfoldable pub use Rattle.trace_rules.specs.JobText.{rowsOf, endText, refusedText, traceText, jobText, putOf}
 pub use Rattle.trace_rules.specs.declared.TextAnswer.{TextAnswer}

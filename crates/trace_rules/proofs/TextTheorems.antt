@@ -1,14 +1,15 @@
 -- For the reader of specs/: how much of a file decides, how long a text is and what room it takes, what is left of the buffer, and which text is printed when.
 -- Assumes nothing.
 use Rattle.trace_rules.proofs.Shared.{atFront, twoDigits, last-small, Unit, load-reads, fresh-drained, TextAnswer, rowsOf, endText, refusedText, textFor}
-use Rattle.trace_rules.proofs.Shared.{jobText, putOf, writeTextOf, largestText, wholeTextOf, bytesToRead}
-use Rattle.unit_rules.proofs.Shared.{ℕ, _-_, _≤_, _≡_, refl, sym, ap, _∙_, Bool, true, false, List, [], _∷_, _++_, arith, ltb-true}
-use Rattle.unit_rules.proofs.Shared.{ltb-false, eqb-true, eqb-false, ltb, eqb, length, take, replicate, length-append, length-drop, length-replicate}
-use Rattle.unit_rules.proofs.Shared.{take-at, take-all, firstBad, ReadJob, LARGEST, headerOf, testedOf, bodyOf, lastOf, freshOf, loadedBy}
+use Rattle.trace_rules.proofs.Shared.{jobText, putOf, writeTextOf, largestText, wholeTextOf}
+use Rattle.unit_rules.proofs.Shared.{ℕ, _-_, _≤_, _≡_, refl, sym, ap, _∙_, Bool, true, false, List, [], _∷_, _++_, arith}
+use Rattle.unit_rules.proofs.Shared.{eqb-true, eqb-false, eqb, length, take, replicate, length-append, length-drop, length-replicate}
+use Rattle.unit_rules.proofs.Shared.{take-at, firstBad, ReadJob, headerOf, testedOf, bodyOf, lastOf, freshOf, loadedBy}
 use Rattle.unit_rules.proofs.Shared.{loadOf, goOf, drainedOf, wellMadeOf, instructionsAt, readOf}
 use Rattle.table.specs.Decided.{decided}
 use Rattle.table.proofs.Decided.{each}
-use Rattle.job_rules.proofs.TooLong.{first-bytes-decide}
+use Rattle.job_rules.specs.Layout.{bytesToRead}
+use Rattle.job_rules.proofs.TooLong as of-a-job
 use Rattle.trace_rules.proofs.TextLengths.{trace-is, trace-long, refused-long}
 use Rattle.trace_rules.proofs.TextPut.{text-put, text-refused, text-accepted, gone-made, went-on, none-made}
 
@@ -40,18 +41,12 @@ pub empty-job : jobText (0 ∷ 0 ∷ 0 ∷ 0 ∷ 8 ∷ 0 ∷ 8 ∷ 0 ∷ []) ≡
 unfolding endText rowsOf twoDigits loadOf goOf wellMadeOf drainedOf headerOf testedOf bodyOf decided firstBad
 empty-job = accepted-text (0 ∷ 0 ∷ 0 ∷ 0 ∷ 8 ∷ 0 ∷ 8 ∷ 0 ∷ []) refl
 
--- the first so many bytes of a file decide its text: a file that is too long is refused as they are
+-- the bytes of a file that decide what is read of it decide its text: a file that is too long is refused as they are
 pub first-777-bytes : (file : List ℕ) → jobText (take bytesToRead file) ≡ jobText file
 unfolding jobText
-first-777-bytes file = go (ltb LARGEST (length file)) refl
-  where
-    go : (t : Bool) → ltb LARGEST (length file) ≡ t → jobText (take bytesToRead file) ≡ jobText file
-    go true q =
-        ap textFor
-        (refused-as-read (take bytesToRead file)
-        ∙ sym (ap (λ (r : ReadJob). loadedBy r freshOf) (first-bytes-decide file (ltb-true LARGEST (length file) q)))
-        ∙ sym (refused-as-read file))
-    go false q = ap jobText (take-all bytesToRead file (omega (arith, ltb-false LARGEST (length file) q)))
+first-777-bytes file =
+    ap textFor
+    (refused-as-read (take bytesToRead file) ∙ ap (λ (r : ReadJob). loadedBy r freshOf) (of-a-job.first-777-bytes file) ∙ sym (refused-as-read file))
 
 -- ---- the room that it takes
 

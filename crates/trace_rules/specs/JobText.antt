@@ -72,7 +72,3 @@ largestText = 5032
 -- a text by value: at the front of so many zeros, with its size
 abbrev pub wholeTextOf : List ℕ → WholeText
 wholeTextOf file = record { bytes = atFront (jobText file) (replicate largestText 0); size = length (jobText file) }
-
--- so many bytes of a file decide what is printed for it: one more than an accepted file has, which is "at most 776"
-abbrev pub bytesToRead : ℕ
-bytesToRead = 777

@@ -7,15 +7,10 @@ use mathlib.Core.List.{List}
 use Rattle.determined.specs.Determined.{Determined}
 use Rattle.determined.proofs.OneEquation.{by-value, no-requires}
 use Rattle.trace_rules.specs.declared.TextAnswer.{TextAnswer}
-use Rattle.trace_text.proofs.bytes_to_read.Kinds as bytes-to-read-kinds
-use Rattle.trace_text.proofs.bytes_to_read.Reads as bytes-to-read-reads
 use Rattle.trace_text.proofs.whole_text.Kinds as whole-text-kinds
 use Rattle.trace_text.proofs.whole_text.Reads as whole-text-reads
 use Rattle.trace_text.proofs.write_text.Kinds as write-text-kinds
 use Rattle.trace_text.proofs.write_text.Reads as write-text-reads
-
-pub bytes-to-read-unique : Determined 0 bytes-to-read-kinds.ps bytes-to-read-kinds.r bytes-to-read-reads.requires bytes-to-read-reads.Post
-bytes-to-read-unique = by-value (λ κs a. no-requires) (λ κs a v w. refl)
 
 pub whole-text-unique : Determined 1 whole-text-kinds.ps whole-text-kinds.r whole-text-reads.requires whole-text-reads.Post
 whole-text-unique = by-value (λ κs a. no-requires) (λ κs a v w. refl)

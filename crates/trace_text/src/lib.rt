@@ -4,7 +4,7 @@ ghost use mathlib.Core.Path.{_≡_};
 ghost use mathlib.Core.Bool.{true};
 ghost use Rattle.table.specs.Refusal.{ROOM};
 ghost use Rattle.unit_rules.specs.Record.{wellMadeOf};
-ghost use Rattle.trace_rules.specs.JobText.{refusedText, traceText, putOf, writeTextOf, wholeTextOf, bytesToRead};
+ghost use Rattle.trace_rules.specs.JobText.{refusedText, traceText, putOf, writeTextOf, wholeTextOf};
 
 mod lines;
 mod rows;
@@ -24,16 +24,6 @@ use unit_rules::Unit;
 
 // The bytes of a line of END.
 const END_SIZE: usize = 7;
-
-// So many bytes of a file decide its text: a program need not read more of any input.
-pub const BYTES_TO_READ: usize = 777;
-
-// The constant, by a contract.
-pub fn bytes_to_read() -> usize
-    ensures { λ r. ⌜ r ≡ bytesToRead ⌝ }
-{
-    BYTES_TO_READ
-}
 
 fn no_room() -> TextAnswer
     ensures { λ r. ⌜ r ≡ record { refusal = ROOM; size = 0 } ⌝ }

@@ -50,5 +50,5 @@ returns-4 c = all-said (c .before .before .loop .inv) (c .before .loop-test .lef
 pub in-base-spec : {M : Type 1} → this.Statement.statement M
 in-base-spec =
     this.Tie.close
-    (this.Tie.spec Inv-loop μ-loop (λ c. none-so-far _ _) (λ c. search needs) (λ c κs. search needs) (λ c κs. search needs) returns mul-value (λ c. search needs) add-value
+    (this.Tie.spec Inv-loop μ-loop (λ c. none-so-far _ _) (λ c. search needs) (λ c κs. search needs) (λ c κs. search needs) returns mul-value add-value
     (λ c κs. search needs) returns-2 (λ c. search needs) (λ c. search needs) loop-again (λ c κs. search needs) returns-3 (λ c. search needs) returns-4)

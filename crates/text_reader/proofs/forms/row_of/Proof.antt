@@ -2,14 +2,15 @@
 use Prim.Native.Nat.{_-_, _≤_}
 use native.Mathlib.Omega.{arith}
 use borrow.Author.Needs.{needs}
-use Rattle.text_reader.proofs.Keys.{From, table-long, key-here, key-later, key-never}
+use Rattle.text_table.proofs.Cells.{table-long}
+use Rattle.text_reader.proofs.Keys.{From, key-here, key-later, key-never}
 use Rattle.text_reader.proofs.forms.row_of as this
 
 abbrev Inv-loop : this.Tie.InvT-loop
-Inv-loop table key row₀ row = (row ≤ 25) × From key row
+Inv-loop table key row₀ row = (row ≤ 26) × From key row
 
 abbrev μ-loop : this.Tie.MeasureT-loop
-μ-loop table key row₀ row = 25 - row
+μ-loop table key row₀ row = 26 - row
 
 shared-slice-read-if1 : this.Tie.Need-shared-slice-read-if1 Inv-loop μ-loop
 shared-slice-read-if1 c = omega (arith, table-long (c .before .before .before .pre))

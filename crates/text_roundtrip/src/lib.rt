@@ -1,0 +1,1 @@
+// Listings that are read and texts that are listed, of the reader and the writer themselves: proofs/Calls.antt. There is no code.

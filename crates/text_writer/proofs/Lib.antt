@@ -1,0 +1,11 @@
+pub mod Elements
+pub mod Backwards
+pub mod Digits
+pub mod Names
+pub mod Pieces
+pub mod Operands
+pub mod Leaves
+pub mod Lines
+pub mod Listings
+pub mod Jobs
+pub mod Unique
