@@ -7,7 +7,7 @@ use lib.ListN.{take, replicate}
 use Rattle.table.specs.Refusal.{firstBad}
 use Rattle.table.specs.Decided.{decided}
 use Rattle.job_rules.specs.declared.ReadJob.{ReadJob}
-use Rattle.job_rules.specs.Layout.{twoBytes, encode}
+use Rattle.job_rules.specs.Layout.{bytesToRead, twoBytes, encode}
 use Rattle.job_rules.specs.Read.{testedOf, headerOf, bodyOf, readOf}
 use Rattle.job_rules.specs.Write.{sizeOrRefusal}
 
@@ -35,6 +35,11 @@ pub reading : (read 0 0 8 8 7 ∷ read 0 0 8 8 8
     ≡ (1 ∷ 0 ∷ 2 ∷ 0 ∷ 3 ∷ 0 ∷ 4 ∷ 4 ∷ 5 ∷ 5 ∷ 0 ∷ 6 ∷ 1 ∷ 0 ∷ [])
 unfolding headerOf testedOf bodyOf decided encode firstBad flatMap
 reading = refl
+
+-- 777 bytes decide what is read, and one fewer do not: of this file they are the largest job, which it is not
+pub no-fewer-bytes : (read 64 32 8 264 (bytesToRead - 1) ∷ read 64 32 8 264 bytesToRead ∷ []) ≡ (0 ∷ 5 ∷ [])
+unfolding headerOf testedOf bodyOf decided firstBad
+no-fewer-bytes = refl
 
 -- where two faults meet, the first test answers
 pub reading-order : (read 65 33 9 9 7 ∷ read 65 33 9 9 8 ∷ read 64 33 9 9 8 ∷ read 64 32 9 9 8 ∷ read 64 32 8 9 8 ∷ read 64 32 8 264 8 ∷ [])

@@ -10,9 +10,9 @@ use borrow.Author.Tests.{eq-eqb, ne-eqb}
 use lib.Dec.{eqb}
 use lib.ListN.{length, getD, drop, drop-of-length-le}
 use lib.Seq.{drop-cons}
-use Rattle.text_rules.specs.Forms.{Form, everyForm, firstRow, formAt}
+use Rattle.text_rules.specs.Forms.{Form, everyForm, firstRow}
 use Rattle.text_table.specs.Table.{keyOf, formTable}
-use Rattle.text_table.proofs.Cells.{key-cell}
+use Rattle.text_table.proofs.Cells.{key-there}
 use Rattle.text_reader.specs.Keys.{rowKeyed}
 
 -- ---- in any list of forms
@@ -37,16 +37,13 @@ From key row = row + firstRow (hasKey key) (drop row everyForm) ≡ rowKeyed key
 
 -- in the table as the code has it
 module _ {table : List ℕ} (e : table ≡ formTable) (key row : ℕ) (h : row < 26) (from : From key row) where
-  there : getD table (11 * row) 0 ≡ keyOf (formAt row .name)
-  there = ap (λ (l : List ℕ). getD l (11 * row) 0) e ∙ key-cell row h
-
   -- the row has the key
   pub key-here : getD table (11 * row) 0 ≡ key → row ≡ rowKeyed key
-  key-here k = omega (arith, first-here (hasKey key) everyForm _ row h (eq-eqb _ _ (sym there ∙ k)))
+  key-here k = omega (arith, first-here (hasKey key) everyForm _ row h (eq-eqb _ _ (sym (key-there e row h) ∙ k)))
 
   -- it has another: the next row
   pub key-later : (getD table (11 * row) 0 ≡ key → ⊥) → From key (row + 1)
-  key-later n = omega (arith, first-later (hasKey key) everyForm _ row h (ne-eqb _ _ (λ k. n (there ∙ k))))
+  key-later n = omega (arith, first-later (hasKey key) everyForm _ row h (ne-eqb _ _ (λ k. n (key-there e row h ∙ k))))
 
 -- behind the last row none has it
 pub key-never : (key row : ℕ) → 26 ≤ row → From key row → row ≡ rowKeyed key

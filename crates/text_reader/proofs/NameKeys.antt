@@ -6,14 +6,13 @@ use mathlib.Core.Bool.{Bool, true, false, _&&_, true≢false}
 use mathlib.Core.List.{List, [], _∷_}
 use native.Mathlib.Nat.{le-antisymm, pow-suc, pow-le-pow-right}
 use native.Mathlib.Omega.{arith}
-use borrow.Author.Tests.{ltb-true, leb-true, eq-eqb, ne-eqb}
+use borrow.Author.Tests.{leb-true, eq-eqb, ne-eqb}
 use lib.Dec.{ltb, leb, eqb}
 use lib.ListN.{length, take}
 use lib.Seq.{take-all, length-take-le}
 use Rattle.text_rules.specs.Forms.{Form, everyForm, firstRow, sameBytes, rowNamed}
-use Rattle.text_rules.proofs.Fronts.{all-map}
-use Rattle.text_rules.proofs.Positional.{AllBelow, same-length, below-power, above-power}
-use Rattle.text_rules.proofs.Rows.{both, every, every-all, same-bytes, same-as-itself, sound}
+use Rattle.text_rules.proofs.Positional.{AllBelow, every-below, same-length, below-power, above-power}
+use Rattle.text_rules.proofs.Rows.{both, every, same-bytes, same-as-itself, sound}
 use Rattle.text_rules.proofs.Stated.{found}
 use Rattle.text_table.specs.Table.{keyOf}
 use Rattle.text_reader.specs.Keys.{rowKeyed}
@@ -60,9 +59,6 @@ module _ (name other : List ℕ) (short : length other ≤ 6) where
 abbrev keyed : Form → Bool
 keyed f = leb (length (f .name)) 6 && every (λ b. ltb b 256) (f .name)
 
-each-byte : (l : List ℕ) → every (λ b. ltb b 256) l ≡ true → AllBelow 256 l
-each-byte l e = all-map (λ b. ltb-true b 256) l (every-all (λ b. ltb b 256) l e)
-
 same-row : (name : List ℕ) → AllBelow 256 (take 7 name) → (fs : List Form) → every keyed fs ≡ true
     → firstRow (λ (f : Form). eqb (keyOf (f .name)) (keyOf (take 7 name))) fs ≡ firstRow (λ (f : Form). sameBytes name (f .name)) fs
 unfolding firstRow
@@ -70,7 +66,7 @@ same-row name h [] e = refl
 same-row name h (f ∷ fs) e =
     let s = both (keyed f) (every keyed fs) e in
     let t = both (leb (length (f .name)) 6) (every (λ b. ltb b 256) (f .name)) (s .0) in
-    rw (by-seven name (f .name) (leb-true _ _ (t .0)) h (each-byte (f .name) (t .1)), same-row name h fs (s .1))
+    rw (by-seven name (f .name) (leb-true _ _ (t .0)) h (every-below 256 (f .name) (t .1)), same-row name h fs (s .1))
 
 -- the row of a name's key is the row of the name
 pub row-of-key : (name : List ℕ) → AllBelow 256 (take 7 name) → rowKeyed (keyOf (take 7 name)) ≡ rowNamed name

@@ -1,18 +1,32 @@
 -- Digits of any base, one behind another. Carried by the last digit: it is what is left over the base.
 -- Assumes nothing.
-use Prim.Native.Nat.{ℕ, _+_, _*_, _/_, _^_, _≤_, _<_}
+use Prim.Native.Nat.{ℕ, zero, suc, _+_, _*_, _/_, _^_, _≤_, _<_}
 use mathlib.Core.Path.{_≡_, refl, sym, ap, _∙_}
+use mathlib.Core.Bool.{true}
 use mathlib.Core.List.{List, [], _∷_, _++_}
 use native.Mathlib.Omega.{arith}
 use native.Mathlib.Nat.{add-zero, pow-zero, mul-one, le-refl, le-trans, lt-of-lt-of-le, mul-le-mul-right}
+use native.Mathlib.Nat.{le-of-suc-le-suc, not-suc-le-zero}
 use native.Mathlib.Nat.{mul-comm, mul-assoc, add-mul, mul-add-div, div-eq-of-lt, le-mul-of-pos-right, pow-succ'}
-use lib.ListN.{length}
+use borrow.Author.Tests.{ltb-true}
+use lib.Dec.{ltb}
+use lib.ListN.{length, getD}
 use Rattle.text_rules.specs.Number.{positional}
-use Rattle.text_rules.proofs.Fronts.{All}
+use Rattle.text_rules.proofs.Fronts.{All, all-map}
+use Rattle.text_rules.proofs.Rows.{every, every-all}
 
 -- each digit is below the base
 abbrev pub AllBelow : ℕ → List ℕ → Type 0
 AllBelow base ds = All (λ (d : ℕ). d < base) ds
+
+pub each-below : (base : ℕ) (ds : List ℕ) → AllBelow base ds → (i : ℕ) → i < length ds → getD ds i 0 < base
+each-below base [] all i h = absurd (not-suc-le-zero h)
+each-below base (d ∷ ds) all zero h = all .0
+each-below base (d ∷ ds) all (suc i) h = each-below base ds (all .1) i (le-of-suc-le-suc h)
+
+-- as a test says it
+pub every-below : (base : ℕ) (ds : List ℕ) → every (λ (d : ℕ). ltb d base) ds ≡ true → AllBelow base ds
+every-below base ds e = all-map (λ d. ltb-true d base) ds (every-all (λ (d : ℕ). ltb d base) ds e)
 
 pub positional-append : (base before : ℕ) (xs ys : List ℕ) → positional base before (xs ++ ys) ≡ positional base (positional base before xs) ys
 positional-append base before [] ys = refl

@@ -94,6 +94,7 @@ forms =
 abbrev pub wordForm : Form
 wordForm = record { name = dot ∷ w ∷ o ∷ r ∷ d ∷ []; word = 0; operands = operand (2 ^ 25) 0 ∷ []; notation = sevenHex }
 
+-- behind the others
 abbrev pub everyForm : List Form
 everyForm = forms ++ wordForm ∷ []
 

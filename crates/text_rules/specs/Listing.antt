@@ -20,7 +20,7 @@ use Rattle.text_rules.specs.Line.{SPACE, NEWLINE}
 
 -- ---- a line as it is written
 
--- a name, the numbers of its operands, each behind one space, and a newline
+-- "single spaces", "ended by a newline": a name, the numbers of its operands, each behind one space, and a newline
 abbrev pub numbersText : Notation → List ℕ → List ℕ
 numbersText notation numbers = flatMap (λ (v : ℕ). SPACE ∷ digitsFor notation v) numbers
 

@@ -73,7 +73,7 @@ module _ (row : ℕ) (h : row < 26) where
   cell-in j k = in-row rowOf 11 row-size everyForm _ row j h k
 
   -- a row begins with its name's key
-  pub key-cell : getD formTable (11 * row) 0 ≡ keyOf (formAt row .name)
+  key-cell : getD formTable (11 * row) 0 ≡ keyOf (formAt row .name)
   key-cell = let start : 11 * row ≡ 11 * row + 0 = omega arith in rw start (cell-in 0 (omega arith))
 
   -- behind it is the base of its digits, and then its word
@@ -107,5 +107,9 @@ module _ (row : ℕ) (h : row < 26) where
     weight-cell d h = operand-cell 1 (omega arith) ∙ rw (drop-cons (formAt row .operands) o d h)
 
 -- in the table as the code has it
-pub table-long : {table : List ℕ} → table ≡ formTable → length table ≡ 286
-table-long e = ap length e ∙ table-size
+module _ {table : List ℕ} (e : table ≡ formTable) where
+  pub table-long : length table ≡ 286
+  table-long = ap length e ∙ table-size
+
+  pub key-there : (row : ℕ) → row < 26 → getD table (11 * row) 0 ≡ keyOf (formAt row .name)
+  key-there row h = ap (λ (l : List ℕ). getD l (11 * row) 0) e ∙ key-cell row h

@@ -1,4 +1,3 @@
-pub mod Elements
 pub mod Backwards
 pub mod Digits
 pub mod Names

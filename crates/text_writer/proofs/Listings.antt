@@ -14,10 +14,10 @@ use Rattle.table.proofs.Decided.{deciding}
 use Rattle.job_rules.specs.declared.Written.{Written}
 use Rattle.job_rules.specs.Write.{writtenOf}
 use Rattle.text_rules.specs.Listing.{lineOfWord, listingOf, longestListing, listedOrRefusal, listOf}
+use Rattle.text_rules.proofs.Positional.{each-below}
 use Rattle.text_rules.proofs.Limits.{good-is-below}
 use Rattle.text_rules.proofs.Longest.{longest-program}
 use Rattle.text_writer.specs.Put.{Put}
-use Rattle.text_writer.proofs.Elements.{each-below}
 use Rattle.text_writer.proofs.Pieces.{SoFar, none-yet, all-put}
 
 -- ---- good words

@@ -5,19 +5,16 @@ use mathlib.Core.Path.{_≡_, refl, sym, ap, _∙_}
 use mathlib.Core.Bool.{true}
 use mathlib.Core.List.{List, [], _∷_, _++_}
 use native.Mathlib.Omega.{arith}
-use borrow.Author.Tests.{ltb-true}
 use lib.Dec.{ltb}
 use lib.ListN.{length, getD, take, drop, set}
 use lib.Seq.{take-suc, take-all}
 use Rattle.buffer.specs.Front.{fromStart}
 use Rattle.text_rules.specs.Forms.{formAt}
-use Rattle.text_rules.proofs.Fronts.{all-map}
-use Rattle.text_rules.proofs.Positional.{AllBelow, snoc}
-use Rattle.text_rules.proofs.Rows.{every, every-all, agree}
+use Rattle.text_rules.proofs.Positional.{AllBelow, each-below, every-below, snoc}
+use Rattle.text_rules.proofs.Rows.{every, agree}
 use Rattle.text_table.specs.Table.{keyOf, formTable}
-use Rattle.text_table.proofs.Cells.{key-cell}
+use Rattle.text_table.proofs.Cells.{key-there}
 use Rattle.text_writer.specs.Name.{sizeByKey}
-use Rattle.text_writer.proofs.Elements.{each-below}
 use Rattle.text_writer.proofs.Backwards.{one-back}
 
 -- ---- in the table
@@ -31,20 +28,17 @@ bytes-there : (row : ℕ) → row < 26 → every (λ b. ltb b 256) (formAt row .
 bytes-there = agree 26 (λ (row : ℕ). every (λ b. ltb b 256) (formAt row .name)) (λ (_ : ℕ). true) refl
 
 pub name-bytes : (row : ℕ) → row < 26 → AllBelow 256 (formAt row .name)
-name-bytes row h = let name = formAt row .name in all-map (λ b. ltb-true b 256) name (every-all (λ b. ltb b 256) name (bytes-there row h))
+name-bytes row h = every-below 256 (formAt row .name) (bytes-there row h)
 
 -- in the table as the code has it
 module _ {table : List ℕ} (e : table ≡ formTable) (row : ℕ) (h : row < 26) where
-  key-there : getD table (11 * row) 0 ≡ keyOf (formAt row .name)
-  key-there = ap (λ (l : List ℕ). getD l (11 * row) 0) e ∙ key-cell row h
-
   -- the size that is found by the key there
   pub size-there : {size : ℕ} → size ≡ sizeByKey (getD table (11 * row) 0) → size ≡ length (formAt row .name)
-  size-there q = q ∙ ap sizeByKey key-there ∙ sized row h
+  size-there q = q ∙ ap sizeByKey (key-there e row h) ∙ sized row h
 
   -- all of the name is left, and its key is there
   pub all-left : (size : ℕ) → size ≡ length (formAt row .name) → getD table (11 * row) 0 ≡ keyOf (take size (formAt row .name))
-  all-left size q = key-there ∙ ap keyOf (sym (take-all size (formAt row .name) (omega arith)))
+  all-left size q = key-there e row h ∙ ap keyOf (sym (take-all size (formAt row .name) (omega arith)))
 
 -- ---- from the last byte back
 

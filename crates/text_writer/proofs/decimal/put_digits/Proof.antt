@@ -38,4 +38,15 @@ pub put-digits-spec : {M : Type 1} → this.Statement.statement M
 put-digits-spec =
     this.Tie.close
     (this.Tie.spec
-    (λ c. search needs) (λ c. search needs) (λ c. omega (arith, three-fit c)) (λ c. search needs) (λ c. search needs) (λ c. simp length-set (omega (arith, three-fit c))) (λ c. search needs) (λ c. search needs) (λ c. simp length-set (omega (arith, three-fit c))) (λ c. search needs) returns (λ c. search needs) (λ c. search needs) (λ c. omega (arith, four-fit c)) (λ c. search needs) (λ c. search needs) (λ c. simp length-set (omega (arith, four-fit c))) (λ c. search needs) (λ c. search needs) (λ c. simp length-set (omega (arith, four-fit c))) (λ c. search needs) (λ c. search needs) (λ c. simp length-set (omega (arith, four-fit c))) (λ c. search needs) returns-2 (λ c. search needs) (λ c. search needs) (λ c. omega (arith, five-fit c)) (λ c. search needs) (λ c. search needs) (λ c. simp length-set (omega (arith, five-fit c))) (λ c. search needs) (λ c. search needs) (λ c. simp length-set (omega (arith, five-fit c))) (λ c. search needs) (λ c. search needs) (λ c. simp length-set (omega (arith, five-fit c))) (λ c. search needs) (λ c. search needs) (λ c. simp length-set (omega (arith, five-fit c))) (λ c. search needs) returns-3)
+    (λ c. search needs) (λ c. search needs) (λ c. omega (arith, three-fit c))
+    (λ c. search needs) (λ c. search needs) (λ c. simp length-set (omega (arith, three-fit c)))
+    (λ c. search needs) (λ c. search needs) (λ c. simp length-set (omega (arith, three-fit c))) (λ c. search needs) returns
+    (λ c. search needs) (λ c. search needs) (λ c. omega (arith, four-fit c))
+    (λ c. search needs) (λ c. search needs) (λ c. simp length-set (omega (arith, four-fit c)))
+    (λ c. search needs) (λ c. search needs) (λ c. simp length-set (omega (arith, four-fit c)))
+    (λ c. search needs) (λ c. search needs) (λ c. simp length-set (omega (arith, four-fit c))) (λ c. search needs) returns-2
+    (λ c. search needs) (λ c. search needs) (λ c. omega (arith, five-fit c))
+    (λ c. search needs) (λ c. search needs) (λ c. simp length-set (omega (arith, five-fit c)))
+    (λ c. search needs) (λ c. search needs) (λ c. simp length-set (omega (arith, five-fit c)))
+    (λ c. search needs) (λ c. search needs) (λ c. simp length-set (omega (arith, five-fit c)))
+    (λ c. search needs) (λ c. search needs) (λ c. simp length-set (omega (arith, five-fit c))) (λ c. search needs) returns-3)

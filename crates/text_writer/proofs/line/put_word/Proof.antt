@@ -23,4 +23,13 @@ pub put-word-spec : {M : Type 1} → this.Statement.statement M
 put-word-spec =
     this.Tie.close
     (this.Tie.spec
-    (λ c. search needs) (λ c. simp length-set (omega arith)) (λ c. simp length-set (omega arith)) (λ c. simp length-set (omega arith)) (λ c. simp length-set (omega arith)) (λ c. simp length-set (omega arith)) (λ c κs. search needs) (λ c. simp length-set (omega arith)) (λ c κs. search needs) (λ c. simp length-set (omega arith)) (λ c κs. search needs) (λ c. simp length-set (omega arith)) (λ c κs. search needs) (λ c. simp length-set (omega arith)) (λ c κs. search needs) (λ c. simp length-set (omega arith)) (λ c κs. search needs) (λ c. simp length-set (omega arith)) (λ c κs. search needs) (λ c. simp length-set (omega arith)) (λ c. simp length-set (omega arith)) same-length returns)
+    (λ c. search needs)
+    (λ c. simp length-set (omega arith)) (λ c. simp length-set (omega arith)) (λ c. simp length-set (omega arith)) (λ c. simp length-set (omega arith)) (λ c. simp length-set (omega arith))
+    (λ c κs. search needs) (λ c. simp length-set (omega arith))
+    (λ c κs. search needs) (λ c. simp length-set (omega arith))
+    (λ c κs. search needs) (λ c. simp length-set (omega arith))
+    (λ c κs. search needs) (λ c. simp length-set (omega arith))
+    (λ c κs. search needs) (λ c. simp length-set (omega arith))
+    (λ c κs. search needs) (λ c. simp length-set (omega arith))
+    (λ c κs. search needs) (λ c. simp length-set (omega arith)) (λ c. simp length-set (omega arith))
+    same-length returns)
