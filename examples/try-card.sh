@@ -633,6 +633,14 @@ if is_there assemble examples/sample.text; then
         run ./card trace "$TRY/two-li.job"
         gives 0; prints examples/two-li.trace; err_is ''
         end
+
+        begin 'a text whose row shows a mark: one lane clamped, one on the limit'
+        run ./card assemble examples/clamped.text
+        gives 0; err_is ''
+        cp "$TRY/out" "$TRY/clamped.job"
+        run ./card trace "$TRY/clamped.job"
+        gives 0; prints examples/clamped.trace; out_has '7FFF7FFF 01'; err_is ''
+        end
     fi
 fi
 

@@ -13,6 +13,10 @@ use Rattle.alu.proofs.halfwords.add_clamped.Kinds as add-clamped-kinds
 use Rattle.alu.proofs.halfwords.add_clamped.Reads as add-clamped-reads
 use Rattle.alu.proofs.halfwords.subtract_from_clamped.Kinds as subtract-from-clamped-kinds
 use Rattle.alu.proofs.halfwords.subtract_from_clamped.Reads as subtract-from-clamped-reads
+use Rattle.alu.proofs.halfwords.add_marked.Kinds as add-marked-kinds
+use Rattle.alu.proofs.halfwords.add_marked.Reads as add-marked-reads
+use Rattle.alu.proofs.halfwords.subtract_from_marked.Kinds as subtract-from-marked-kinds
+use Rattle.alu.proofs.halfwords.subtract_from_marked.Reads as subtract-from-marked-reads
 use Rattle.alu.proofs.words.add.Kinds as add-kinds
 use Rattle.alu.proofs.words.add.Reads as add-reads
 use Rattle.alu.proofs.words.or.Kinds as or-kinds
@@ -39,6 +43,8 @@ use Rattle.alu.proofs.li_outcome.Kinds as li-outcome-kinds
 use Rattle.alu.proofs.li_outcome.Reads as li-outcome-reads
 use Rattle.alu.proofs.multiply_outcome.Kinds as multiply-outcome-kinds
 use Rattle.alu.proofs.multiply_outcome.Reads as multiply-outcome-reads
+use Rattle.alu.proofs.short_value.Kinds as short-value-kinds
+use Rattle.alu.proofs.short_value.Reads as short-value-reads
 use Rattle.alu.proofs.short_outcome.Kinds as short-outcome-kinds
 use Rattle.alu.proofs.short_outcome.Reads as short-outcome-reads
 use Rattle.alu.proofs.result.Kinds as result-kinds
@@ -59,6 +65,13 @@ add-clamped-unique = by-value (λ κs a. no-requires) (λ κs a v w. refl)
 pub subtract-from-clamped-unique :
     Determined 0 subtract-from-clamped-kinds.ps subtract-from-clamped-kinds.r subtract-from-clamped-reads.requires subtract-from-clamped-reads.Post
 subtract-from-clamped-unique = by-value (λ κs a. no-requires) (λ κs a v w. refl)
+
+pub add-marked-unique : Determined 0 add-marked-kinds.ps add-marked-kinds.r add-marked-reads.requires add-marked-reads.Post
+add-marked-unique = by-value (λ κs a. no-requires) (λ κs a v w. refl)
+
+pub subtract-from-marked-unique :
+    Determined 0 subtract-from-marked-kinds.ps subtract-from-marked-kinds.r subtract-from-marked-reads.requires subtract-from-marked-reads.Post
+subtract-from-marked-unique = by-value (λ κs a. no-requires) (λ κs a v w. refl)
 
 pub add-unique : Determined 0 add-kinds.ps add-kinds.r add-reads.requires add-reads.Post
 add-unique = by-value (λ κs a. no-requires) (λ κs a v w. refl)
@@ -100,6 +113,9 @@ li-outcome-unique = by-value (λ κs a. no-requires) (λ κs a v w. refl)
 
 pub multiply-outcome-unique : Determined 0 multiply-outcome-kinds.ps multiply-outcome-kinds.r multiply-outcome-reads.requires multiply-outcome-reads.Post
 multiply-outcome-unique = by-value (λ κs a. no-requires) (λ κs a v w. refl)
+
+pub short-value-unique : Determined 0 short-value-kinds.ps short-value-kinds.r short-value-reads.requires short-value-reads.Post
+short-value-unique = by-value (λ κs a. no-requires) (λ κs a v w. refl)
 
 pub short-outcome-unique : Determined 0 short-outcome-kinds.ps short-outcome-kinds.r short-outcome-reads.requires short-outcome-reads.Post
 short-outcome-unique = by-value (λ κs a. no-requires) (λ κs a v w. refl)

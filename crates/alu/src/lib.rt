@@ -6,10 +6,11 @@ ghost use Rattle.register.specs.Layout.{zeroRegister, withHalfword};
 ghost use Rattle.table.specs.Fields.{isLong, isSubtract, isHigh, indexOf, immediateOf, codeOf};
 ghost use Rattle.table.specs.Operation.{shortRows};
 ghost use Rattle.table.specs.Operation.Operation.{nop};
-ghost use Rattle.alu_rules.specs.Across.{multiplied};
+ghost use Rattle.alu_rules.specs.Across.{unmarked, multiplied};
 ghost use Rattle.alu_rules.specs.Result.{result, outcomeOf};
 
 pub mod halfwords;
+mod marks;
 pub mod multiply;
 pub mod words;
 
@@ -26,27 +27,29 @@ use table::fields::is_long;
 use table::fields::is_multiply;
 use table::fields::is_subtract;
 
+fn without_mark(value: Register) -> Outcome
+    ensures { λ r. ⌜ r ≡ unmarked value ⌝ }
+{
+    Outcome { value, mark: 0 }
+}
+
 // li: its one operand is its old rd.
 pub fn li_outcome(w: u32, rd: Register) -> Outcome
-    ensures { λ r. ⌜ r ≡ record { value = withHalfword (indexOf w) (immediateOf w) rd } ⌝ }
+    ensures { λ r. ⌜ r ≡ unmarked (withHalfword (indexOf w) (immediateOf w) rd) ⌝ }
 {
-    Outcome {
-        value: rd.with_halfword(index(w), immediate(w)),
-    }
+    without_mark(rd.with_halfword(index(w), immediate(w)))
 }
 
 // A word of the multiply family.
 pub fn multiply_outcome(w: u32, rs1: Register, rs2: Register, rs3: Register) -> Outcome
-    ensures { λ r. ⌜ r ≡ record { value = multiplied (isLong w) (isSubtract w) (isHigh w) rs1 rs2 rs3 } ⌝ }
+    ensures { λ r. ⌜ r ≡ multiplied (isLong w) (isSubtract w) (isHigh w) rs1 rs2 rs3 ⌝ }
 {
-    Outcome {
-        value: multiply(is_long(w), is_subtract(w), is_high(w), rs1, rs2, rs3),
-    }
+    multiply(is_long(w), is_subtract(w), is_high(w), rs1, rs2, rs3)
 }
 
-// The sixteen short codes, none of which has a third operand.
-fn short_result(w: u32, rs1: Register, rs2: Register) -> Register
-    ensures { λ r. ⌜ r ≡ result (getD shortRows (codeOf w) nop) w rs1 rs2 zeroRegister ⌝ }
+// A word of a short code, its value alone: eight marks take as long to gather as their sums, and a run needs none. None of the sixteen has a third operand.
+pub fn short_value(w: u32, rs1: Register, rs2: Register) -> Register
+    ensures { λ r. ⌜ r ≡ result (getD shortRows (codeOf w) nop) w rs1 rs2 zeroRegister .value ⌝ }
 {
     let code = code(w);
     match code {
@@ -69,12 +72,15 @@ fn short_result(w: u32, rs1: Register, rs2: Register) -> Register
     }
 }
 
-// A word of a short code.
+// A word of a short code. AHS and SFHS alone mark.
 pub fn short_outcome(w: u32, rs1: Register, rs2: Register) -> Outcome
-    ensures { λ r. ⌜ r ≡ record { value = result (getD shortRows (codeOf w) nop) w rs1 rs2 zeroRegister } ⌝ }
+    ensures { λ r. ⌜ r ≡ result (getD shortRows (codeOf w) nop) w rs1 rs2 zeroRegister ⌝ }
 {
-    Outcome {
-        value: short_result(w, rs1, rs2),
+    let code = code(w);
+    match code {
+        4 => halfwords::add_marked(rs1, rs2),
+        15 => halfwords::subtract_from_marked(rs1, rs2),
+        _ => without_mark(short_value(w, rs1, rs2)),
     }
 }
 

@@ -2,8 +2,14 @@
 
 ghost use mathlib.Core.Path.{_≡_};
 ghost use Rattle.register.specs.Halves.{half};
-ghost use Rattle.alu_rules.specs.Across.{words₃, longs₃, multiplyLane, multiplied};
+ghost use Rattle.alu_lanes.specs.Clamped.{clamped32, clamped64};
+ghost use Rattle.alu_rules.specs.Across.{clampedWords, clampedLongs, multiplyLane, multiplied};
+use crate::marks::mark_of_longs;
+use crate::marks::mark_of_words;
 use alu_lanes::clamped;
+use alu_lanes::clamped::Clamped32;
+use alu_lanes::clamped::Clamped64;
+use alu_rules::Outcome;
 use register::Register;
 use register::halves::half_of_word;
 use register::halves::join_words;
@@ -18,16 +24,16 @@ fn half_of_long(l: u64, high: bool) -> u32
     }
 }
 
-fn multiply_word(subtract: bool, high: bool, rs1: u32, rs2: u32, rs3: u32) -> u32
-    ensures { λ r. ⌜ r ≡ multiplyLane 16 subtract high rs1 rs2 rs3 ⌝ }
+fn multiply_word(subtract: bool, high: bool, rs1: u32, rs2: u32, rs3: u32) -> Clamped32
+    ensures { λ r. ⌜ r ≡ clamped32 (multiplyLane 16 subtract high rs1 rs2 rs3) ⌝ }
 {
     let a = half_of_word(rs3, high);
     let b = half_of_word(rs2, high);
     clamped::multiply_16(subtract, rs1, a, b)
 }
 
-fn multiply_long(subtract: bool, high: bool, rs1: u64, rs2: u64, rs3: u64) -> u64
-    ensures { λ r. ⌜ r ≡ multiplyLane 32 subtract high rs1 rs2 rs3 ⌝ }
+fn multiply_long(subtract: bool, high: bool, rs1: u64, rs2: u64, rs3: u64) -> Clamped64
+    ensures { λ r. ⌜ r ≡ clamped64 (multiplyLane 32 subtract high rs1 rs2 rs3) ⌝ }
 {
     let a = half_of_long(rs3, high);
     let b = half_of_long(rs2, high);
@@ -40,14 +46,21 @@ fn multiply_words(
     rs1: Register,
     rs2: Register,
     rs3: Register,
-) -> Register
-    ensures { λ r. ⌜ r ≡ words₃ (multiplyLane 16 subtract high) rs1 rs2 rs3 ⌝ }
+) -> Outcome
+    ensures { λ r. ⌜ r ≡ clampedWords (multiplyLane 16 subtract high) rs1 rs2 rs3 ⌝ }
 {
-    Register {
-        w0: multiply_word(subtract, high, rs1.w0, rs2.w0, rs3.w0),
-        w1: multiply_word(subtract, high, rs1.w1, rs2.w1, rs3.w1),
-        w2: multiply_word(subtract, high, rs1.w2, rs2.w2, rs3.w2),
-        w3: multiply_word(subtract, high, rs1.w3, rs2.w3, rs3.w3),
+    let w0 = multiply_word(subtract, high, rs1.w0, rs2.w0, rs3.w0);
+    let w1 = multiply_word(subtract, high, rs1.w1, rs2.w1, rs3.w1);
+    let w2 = multiply_word(subtract, high, rs1.w2, rs2.w2, rs3.w2);
+    let w3 = multiply_word(subtract, high, rs1.w3, rs2.w3, rs3.w3);
+    Outcome {
+        value: Register {
+            w0: w0.value,
+            w1: w1.value,
+            w2: w2.value,
+            w3: w3.value,
+        },
+        mark: mark_of_words(w0.marked, w1.marked, w2.marked, w3.marked),
     }
 }
 
@@ -57,8 +70,8 @@ fn multiply_longs(
     rs1: Register,
     rs2: Register,
     rs3: Register,
-) -> Register
-    ensures { λ r. ⌜ r ≡ longs₃ (multiplyLane 32 subtract high) rs1 rs2 rs3 ⌝ }
+) -> Outcome
+    ensures { λ r. ⌜ r ≡ clampedLongs (multiplyLane 32 subtract high) rs1 rs2 rs3 ⌝ }
 {
     let l1 = multiply_long(
         subtract,
@@ -74,11 +87,14 @@ fn multiply_longs(
         join_words(rs2.w1, rs2.w0),
         join_words(rs3.w1, rs3.w0),
     );
-    Register {
-        w0: half_of_long(l0, false),
-        w1: half_of_long(l0, true),
-        w2: half_of_long(l1, false),
-        w3: half_of_long(l1, true),
+    Outcome {
+        value: Register {
+            w0: half_of_long(l0.value, false),
+            w1: half_of_long(l0.value, true),
+            w2: half_of_long(l1.value, false),
+            w3: half_of_long(l1.value, true),
+        },
+        mark: mark_of_longs(l0.marked, l1.marked),
     }
 }
 
@@ -90,7 +106,7 @@ pub fn multiply(
     rs1: Register,
     rs2: Register,
     rs3: Register,
-) -> Register
+) -> Outcome
     ensures { λ r. ⌜ r ≡ multiplied long subtract high rs1 rs2 rs3 ⌝ }
 {
     if long {

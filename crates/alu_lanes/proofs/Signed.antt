@@ -5,23 +5,59 @@ use Prim.Native.Nat.{ℕ, suc, _+_, _-_, _*_, _%_, _^_, _≤_, _<_}
 use mathlib.Core.Path.{_≡_, refl, sym, ap, ap₂, _∙_}
 use mathlib.Core.Bool.{Bool, true, false, cond, _||_}
 use native.Mathlib.Omega.{arith}
-use native.Mathlib.Nat.{add-mul, mul-add, mul-comm, mod-eq-of-lt, mod-eq-sub-mod, mod-add-mod}
-use borrow.Author.Tests.{lt-ltb, le-ltb}
+use native.Mathlib.Nat.{add-mul, mul-add, mul-comm, mul-le-mul-left, mul-lt-mul-of-pos-right, mod-eq-of-lt, mod-eq-sub-mod, mod-add-mod}
+use borrow.Author.Tests.{lt-ltb, le-ltb, ltb-true, ltb-false}
 use lib.Bits.{bitXor, xor-block, xor-zero-r}
 use lib.Dec.{ltb}
 use lib.IntN.{ℤ, negsuc, negℤ, subℕ, _+ℤ_, _-ℤ_, _*ℤ_}
 use lib.Pow.{pow-pos, pow-add}
 use lib.Signed.{ltZ}
-use Rattle.alu_rules.specs.Width.{signed, bits, greatest, within, clamped}
+use Rattle.alu_rules.specs.Width.{signed, bits, greatest, within, clamped, isMarked}
 use Rattle.alu_rules.specs.Lane.{multiplyAdd, multiplySubtract}
-use Rattle.alu_lanes.specs.Sign.{exactSum, isBeyond, Clamps, signLost}
+use Rattle.alu_lanes.specs.Sign.{exactSum, signLost}
 use Rattle.alu_rules.proofs.Integers.{either, sub-pos, sub-neg, neg-pos}
 use Rattle.alu_rules.proofs.Clamped.{double, bounds, signed-low, signed-high, inside-pos, inside-neg, above, beneath}
+use Rattle.register.proofs.Joined.{product-fits}
 use Rattle.alu_lanes.proofs.Integers.{sub-same, pos-as, sub-sum, sub-swap, sub-times, sub-order}
 
 -- x with the top one of its k bits turned
 abbrev pub turned : ℕ → ℕ → ℕ
 turned k x = bitXor x (2 ^ (k - 1))
+
+-- v is z clamped to k bits, and b says whether that changes it
+pub record Clamps (k : ℕ) (z : ℤ) (v : ℕ) (b : Bool) : Type 0 where
+  pub value-is : v ≡ clamped k z
+  pub mark-is : b ≡ isMarked k z
+
+-- what the code of a clamped sum has, from its answer back to its operands: all of it stands in the contracts of its calls, where `search` finds it
+pub record Added (k : ℕ) (exact : ℤ) (value : ℕ) (marked : Bool) : Type 0 where
+  pub limit : ℕ
+  pub sum : ℕ
+  pub value-picked : value ≡ cond marked limit sum
+  -- x, z and the sum are compared with their top bits: whether each is below, and so not negative
+  pub x : ℕ
+  pub z : ℕ
+  pub x-top : ℕ
+  pub z-top : ℕ
+  pub sum-top : ℕ
+  pub signs : marked ≡ signLost (ltb x x-top) (ltb z z-top) (ltb sum sum-top)
+  pub most : ℕ
+  pub least : ℕ
+  pub limit-picked : limit ≡ cond (ltb x x-top) most least
+  pub first : ℕ
+  pub carry : ℕ
+  pub then-added : sum ≡ (first + carry) % 2 ^ k
+  pub first-added : first ≡ (x + z) % 2 ^ k
+  -- y and 0, or y with every bit turned and 1
+  pub minus : Bool
+  pub carry-picked : carry ≡ cond minus 1 0
+  pub y : ℕ
+  pub ones : ℕ
+  pub z-picked : z ≡ cond minus (ones - y) y
+  pub x-fits : x < 2 ^ k
+  pub y-fits : y < 2 ^ k
+  pub sum-fits : sum < 2 ^ k
+  pub is-exact : exact ≡ exactSum k minus x y
 
 -- v modulo m, where v is below m + m: m is taken away once, or not at all
 once : (m v : ℕ) {P : Type 0} → v < m + m → (v % m ≡ v → P) → (v % m + m ≡ v → P) → P
@@ -52,9 +88,6 @@ module _ (k : ℕ) (some : 0 < k) where
       let d = double k some in
       either x (2 ^ (k - 1)) (λ h. omega (arith, turned-low x h)) (λ h. omega (arith, turned-high x h l))
 
-  pub turned-both : (x y : ℕ) → x < 2 ^ k → y < 2 ^ k → (turned k x < 2 ^ k) × (turned k y < 2 ^ k)
-  turned-both x y l m = (turned-lt x l, turned-lt y m)
-
   signed-turned : (x : ℕ) → x < 2 ^ k → signed k x ≡ subℕ (turned k x) (2 ^ (k - 1))
   signed-turned x l =
       let d = double k some in
@@ -72,8 +105,8 @@ module _ (k : ℕ) (some : 0 < k) where
   is-clamped : {y z : ℤ} {v : ℕ} {b : Bool} → y ≡ z → bits k (within (negsuc (2 ^ (k - 1) - 1)) (greatest k) z) ≡ v
       → (ltZ z (negsuc (2 ^ (k - 1) - 1)) || ltZ (greatest k) z) ≡ b → Clamps k y v b
   is-clamped {z = z} e f g = record {
-    value-clamped = sym (ap (clamped k) e ∙ ap (bits k) (bounds k some z) ∙ f);
-    beyond-told = sym (ap (isBeyond k) e ∙ ap (λ (l : ℤ). ltZ z l || ltZ (greatest k) z) (neg-pos (2 ^ (k - 1)) (pow-pos (k - 1))) ∙ g);
+    value-is = sym (ap (clamped k) e ∙ ap (bits k) (bounds k some z) ∙ f);
+    mark-is = sym (ap (isMarked k) e ∙ ap (λ (l : ℤ). ltZ z l || ltZ (greatest k) z) (neg-pos (2 ^ (k - 1)) (pow-pos (k - 1))) ∙ g);
   }
 
   over : (u : ℕ) → 2 ^ k + 2 ^ (k - 1) ≤ u → Clamps k (subℕ u (2 ^ k)) (2 ^ (k - 1) - 1) true
@@ -103,28 +136,17 @@ module _ (k : ℕ) (some : 0 < k) where
 
   -- ---- x + z + c by the signs of x and z and of s, which is that sum wrapped
 
-  -- t tells whether x is low, below its top bit and so not negative; n is the limit on that side
-  abbrev TellsLow : ℕ → Bool → Type 0
-  TellsLow x t = (t ≡ true → x < 2 ^ (k - 1)) × (t ≡ false → 2 ^ (k - 1) ≤ x)
-
-  abbrev IsLimit : Bool → ℕ → Type 0
-  IsLimit t n = (t ≡ true → n ≡ 2 ^ (k - 1) - 1) × (t ≡ false → n ≡ 2 ^ (k - 1))
-
-  limit-is : (t : Bool) {n : ℕ} → IsLimit t n → n ≡ cond t (2 ^ (k - 1) - 1) (2 ^ (k - 1))
-  limit-is true e = e .0 refl
-  limit-is false e = e .1 refl
-
-  -- what that says of the turned number
+  -- what the test whether x is low, below its top bit and so not negative, says of x turned
   abbrev Side : ℕ → Bool → Type 0
   Side x true = (x < 2 ^ (k - 1)) × (turned k x ≡ x + 2 ^ (k - 1))
   Side x false = (2 ^ (k - 1) ≤ x) × (turned k x + 2 ^ (k - 1) ≡ x)
 
-  side : (x : ℕ) → x < 2 ^ k → (t : Bool) → TellsLow x t → Side x t
+  side : (x : ℕ) → x < 2 ^ k → (t : Bool) → ltb x (2 ^ (k - 1)) ≡ t → Side x t
   side x l true e =
-      let h = e .0 refl in
+      let h = ltb-true x _ e in
       (h, turned-low x h)
   side x l false e =
-      let h = e .1 refl in
+      let h = ltb-false x _ e in
       (h, omega (arith, turned-high x h l))
 
   module _ (x z c s : ℕ) {t : ℕ} (d : 2 ^ k ≡ 2 ^ (k - 1) + 2 ^ (k - 1)) (hx : x < 2 ^ k) (hz : z < 2 ^ k) (hc : c ≤ 1)
@@ -175,17 +197,25 @@ module _ (k : ℕ) (some : 0 < k) where
       let v = turned k z + c in
       (omega arith, omega arith, summed x v hx (signed-turned y hy ∙ sub-same (turned k y) h v h (omega arith)))
 
-  -- what else the code has: the sum t of x and z and then s, both wrapped, a test of each sign, whether the sign is lost, a limit, and the value
-  pub clamps-sum : (minus : Bool) (x y : ℕ) {z c t s : ℕ} → x < 2 ^ k → y < 2 ^ k → s < 2 ^ k
-      → z ≡ cond minus (2 ^ k - 1 - y) y → c ≡ cond minus 1 0 → t ≡ (x + z) % 2 ^ k → s ≡ (t + c) % 2 ^ k
-      → (x-low z-low s-low : Bool) {lost : Bool} → lost ≡ signLost x-low z-low s-low → TellsLow x x-low → TellsLow z z-low → TellsLow s s-low
-      → {limit value : ℕ} → IsLimit x-low limit → value ≡ cond lost limit s → Clamps k (exactSum k minus x y) value lost
-  clamps-sum minus x y {z} {c} {t} {s} hx hy hs ez ec et es x-low z-low s-low signs tx tz ts limits picked =
-      let a = added minus x y hx hy ez ec in
-      let r = by-sides x z c s (double k some) hx (a .0) (a .1) et es hs _ _ _ (side x hx x-low tx) (side z (a .0) z-low tz) (side s hs s-low ts) in
+  -- the numerals of the code stand apart, so that a wrong one is refused by its number
+  abbrev Numerals : {exact : ℤ} {value : ℕ} {marked : Bool} → Added k exact value marked → Type 0
+  Numerals a =
+      (a .x-top ≡ 2 ^ (k - 1)) × (a .z-top ≡ 2 ^ (k - 1)) × (a .sum-top ≡ 2 ^ (k - 1)) × (a .most ≡ 2 ^ (k - 1) - 1) × (a .least ≡ 2 ^ (k - 1))
+      × (a .ones ≡ 2 ^ k - 1)
+
+  pub clamped-sum : {exact : ℤ} {value : ℕ} {marked : Bool} (a : Added k exact value marked) → Numerals a → Clamps k exact value marked
+  clamped-sum {marked = marked} a n =
+      let s = a .sum in
+      let h = 2 ^ (k - 1) in
+      let e = added (a .minus) (a .x) (a .y) (a .x-fits) (a .y-fits) (rw (n .5) at (a .z-picked)) (a .carry-picked) in
+      let r = by-sides (a .x) (a .z) (a .carry) s (double k some) (a .x-fits) (e .0) (e .1) (a .first-added) (a .then-added) (a .sum-fits) _ _ _
+      (side (a .x) (a .x-fits) _ refl) (side (a .z) (e .0) _ refl) (side s (a .sum-fits) _ refl) in
+      let lost : marked ≡ signLost (ltb (a .x) h) (ltb (a .z) h) (ltb s h) = rw (n .0, n .1, n .2) at (a .signs) in
+      let limit : a .limit ≡ cond (ltb (a .x) h) (h - 1) h = rw (n .0, n .3, n .4) at (a .limit-picked) in
+      let difference = a .is-exact ∙ e .2 in
       record {
-        value-clamped = picked ∙ ap₂ (λ (t : Bool) (n : ℕ). cond t n s) signs (limit-is x-low limits) ∙ r .value-clamped ∙ sym (ap (clamped k) (a .2));
-        beyond-told = signs ∙ r .beyond-told ∙ sym (ap (isBeyond k) (a .2));
+        value-is = a .value-picked ∙ ap₂ (λ (b : Bool) (n : ℕ). cond b n s) lost limit ∙ r .value-is ∙ sym (ap (clamped k) difference);
+        mark-is = lost ∙ r .mark-is ∙ sym (ap (isMarked k) difference);
       }
 
   -- ---- a difference p - q that fits, wrapped
@@ -214,6 +244,25 @@ near a b c d h e f =
     (omega arith, omega arith, omega arith)
 
 module _ (k : ℕ) (some : 0 < k) where
+  squared : 2 ^ (k + k) ≡ 2 ^ (k - 1) * 2 ^ (k - 1) * 4
+  squared =
+      let d = double k some in
+      pow-add 2 k k ∙ ap₂ _*_ d d ∙ simp (add-mul, mul-add) (omega arith)
+
+  -- what the code multiplies and adds has at most k bits, so it fits k + k
+  module _ (a b : ℕ) (ha : a < 2 ^ k) (hb : b < 2 ^ k) where
+    pub product-of-turned : turned k a * turned k b < 2 ^ (k + k)
+    product-of-turned = product-fits k (turned-lt k some a ha) (turned-lt k some b hb)
+
+    pub scaled-sum-of-turned : (turned k a + turned k b) * 2 ^ (k - 1) < 2 ^ (k + k)
+    scaled-sum-of-turned =
+        let h = 2 ^ (k - 1) in
+        let less : turned k a + turned k b < 4 * h = omega (arith, double k some, turned-lt k some a ha, turned-lt k some b hb) in
+        omega (arith, squared, mul-lt-mul-of-pos-right less (pow-pos (k - 1)))
+
+    pub sum-of-turned : turned k a + turned k b < 2 ^ (k + k)
+    sum-of-turned = omega (arith, scaled-sum-of-turned, mul-le-mul-left (turned k a + turned k b) (pow-pos (k - 1)))
+
   -- p and r are what the code has: the sum and then the difference, both wrapped
   pub product : (a b : ℕ) {p r : ℕ} → a < 2 ^ k → b < 2 ^ k → r < 2 ^ (k + k)
       → p ≡ (turned k a * turned k b + 2 ^ (k - 1) * 2 ^ (k - 1)) % 2 ^ (k + k) → (r + (turned k a + turned k b) * 2 ^ (k - 1)) % 2 ^ (k + k) ≡ p
@@ -222,18 +271,19 @@ module _ (k : ℕ) (some : 0 < k) where
       let h = 2 ^ (k - 1) in
       let x = turned k a in
       let y = turned k b in
-      let l = turned-both k some a b ha hb in
+      let l = turned-lt k some a ha in
+      let m = turned-lt k some b hb in
       let d = double k some in
       let g = double (k + k) (omega arith) in
       let q = pow-pos (k + k) in
       let n = near x y (2 ^ k - x) (2 ^ k - y) h (omega arith) (omega arith) in
-      let m : 2 ^ (k + k) ≡ h * h * 4 = pow-add 2 k k ∙ ap₂ _*_ d d ∙ simp (add-mul, mul-add) (omega arith) in
+      let w = squared in
       let c : x * h + h * y ≡ (x + y) * h = simp (add-mul, mul-comm h y) in
       wrapped (k + k) (omega arith) r (x * y + h * h) (x * h + h * y) hr (rw c (f ∙ e)) (omega arith) (omega arith) (omega arith) (omega arith)
       ∙ sym (ap₂ _*ℤ_ (signed-turned k some a ha) (signed-turned k some b hb) ∙ sub-times x h y h)
 
--- m is what the code has for the product
-pub with-product : (k : ℕ) (subtract : Bool) (rs1 a b m : ℕ) {v : ℕ} → signed (k + k) m ≡ signed k a *ℤ signed k b
-    → v ≡ clamped (k + k) (exactSum (k + k) subtract rs1 m) → v ≡ cond subtract (multiplySubtract k rs1 a b) (multiplyAdd k rs1 a b)
-with-product k true rs1 a b m e f = f ∙ ap (λ (n : ℤ). clamped (k + k) (signed (k + k) rs1 -ℤ n)) e
-with-product k false rs1 a b m e f = f ∙ ap (λ (n : ℤ). clamped (k + k) (signed (k + k) rs1 +ℤ n)) e
+-- m is what the code has for the product, and f makes its answer of what it clamps
+pub with-product : (k : ℕ) {A : Type 0} (f : ℤ → A) (subtract : Bool) (rs1 a b m : ℕ) {r : A} → signed (k + k) m ≡ signed k a *ℤ signed k b
+    → r ≡ f (exactSum (k + k) subtract rs1 m) → r ≡ f (cond subtract (multiplySubtract k rs1 a b) (multiplyAdd k rs1 a b))
+with-product k f true rs1 a b m e g = g ∙ ap (λ (n : ℤ). f (signed (k + k) rs1 -ℤ n)) e
+with-product k f false rs1 a b m e g = g ∙ ap (λ (n : ℤ). f (signed (k + k) rs1 +ℤ n)) e

@@ -5,26 +5,12 @@ ghost use mathlib.Core.Path.{_≡_};
 ghost use mathlib.Core.Bool.{cond};
 ghost use lib.IntN.{_*ℤ_};
 ghost use Rattle.alu_rules.specs.Width.{signed};
-ghost use Rattle.alu_lanes.specs.Sign.{exactSum, Clamps, signLost};
+ghost use Rattle.alu_lanes.specs.Clamped.{clamped16, clamped32, clamped64};
+ghost use Rattle.alu_lanes.specs.Sign.{exactSum, signLost};
+use crate::clamped::Clamped16;
+use crate::clamped::Clamped32;
+use crate::clamped::Clamped64;
 use register::halves::pick_16;
-
-// A sum clamped to 16 bits, and whether the exact one was beyond them.
-pub struct Clamped16 {
-    pub value: u16,
-    pub beyond: bool,
-}
-
-// The same at 32 bits.
-pub struct Clamped32 {
-    pub value: u32,
-    pub beyond: bool,
-}
-
-// The same at 64 bits.
-pub struct Clamped64 {
-    pub value: u64,
-    pub beyond: bool,
-}
 
 // As `pick_16` of crate `register`, at the other two widths.
 fn pick_32(yes: bool, a: u32, b: u32) -> u32
@@ -49,47 +35,47 @@ fn sign_lost(x: bool, y: bool, sum: bool) -> bool
 
 // x + y, or x - y: in two's complement -y is z + 1, where z has every bit of y turned.
 pub(crate) fn clamped_sum_16(minus: bool, x: u16, y: u16) -> Clamped16
-    ensures { λ r. ⌜ Clamps 16 (exactSum 16 minus x y) (r .value) (r .beyond) ⌝ }
+    ensures { λ r. ⌜ r ≡ clamped16 (exactSum 16 minus x y) ⌝ }
 {
     let z = pick_16(minus, 0xFFFF - y, y);
     let carry = pick_16(minus, 1, 0);
     let sum = std::num::wrapping_add_u16(std::num::wrapping_add_u16(x, z), carry);
     let low = x < 0x8000;
     let limit = pick_16(low, 0x7FFF, 0x8000);
-    let beyond = sign_lost(low, z < 0x8000, sum < 0x8000);
+    let marked = sign_lost(low, z < 0x8000, sum < 0x8000);
     Clamped16 {
-        value: pick_16(beyond, limit, sum),
-        beyond,
+        value: pick_16(marked, limit, sum),
+        marked,
     }
 }
 
 pub(crate) fn clamped_sum_32(minus: bool, x: u32, y: u32) -> Clamped32
-    ensures { λ r. ⌜ Clamps 32 (exactSum 32 minus x y) (r .value) (r .beyond) ⌝ }
+    ensures { λ r. ⌜ r ≡ clamped32 (exactSum 32 minus x y) ⌝ }
 {
     let z = pick_32(minus, 0xFFFF_FFFF - y, y);
     let carry = pick_32(minus, 1, 0);
     let sum = std::num::wrapping_add_u32(std::num::wrapping_add_u32(x, z), carry);
     let low = x < 0x8000_0000;
     let limit = pick_32(low, 0x7FFF_FFFF, 0x8000_0000);
-    let beyond = sign_lost(low, z < 0x8000_0000, sum < 0x8000_0000);
+    let marked = sign_lost(low, z < 0x8000_0000, sum < 0x8000_0000);
     Clamped32 {
-        value: pick_32(beyond, limit, sum),
-        beyond,
+        value: pick_32(marked, limit, sum),
+        marked,
     }
 }
 
 pub(crate) fn clamped_sum_64(minus: bool, x: u64, y: u64) -> Clamped64
-    ensures { λ r. ⌜ Clamps 64 (exactSum 64 minus x y) (r .value) (r .beyond) ⌝ }
+    ensures { λ r. ⌜ r ≡ clamped64 (exactSum 64 minus x y) ⌝ }
 {
     let z = pick_64(minus, 0xFFFF_FFFF_FFFF_FFFF - y, y);
     let carry = pick_64(minus, 1, 0);
     let sum = std::num::wrapping_add_u64(std::num::wrapping_add_u64(x, z), carry);
     let low = x < 0x8000_0000_0000_0000;
     let limit = pick_64(low, 0x7FFF_FFFF_FFFF_FFFF, 0x8000_0000_0000_0000);
-    let beyond = sign_lost(low, z < 0x8000_0000_0000_0000, sum < 0x8000_0000_0000_0000);
+    let marked = sign_lost(low, z < 0x8000_0000_0000_0000, sum < 0x8000_0000_0000_0000);
     Clamped64 {
-        value: pick_64(beyond, limit, sum),
-        beyond,
+        value: pick_64(marked, limit, sum),
+        marked,
     }
 }
 

@@ -1,7 +1,7 @@
 -- Document 01's starred bench values, gathered into one table under one claim, which the checker computes: each word, with its code and its fields,
 -- gives the expected register from its operands. The values stand in every lane.
 -- Assumes nothing.
-use Prim.Native.Nat.{ℕ, _+_, _*_, _/_, _%_, _^_}
+use Prim.Native.Nat.{ℕ, _+_, _*_, _^_}
 use mathlib.Core.Path.{_≡_, refl}
 use mathlib.Core.List.{List, [], _∷_, map}
 use lib.Count.{leadingZeros}
@@ -9,6 +9,7 @@ use Rattle.alu_rules.specs.Width.{signed, bits, within}
 use Rattle.register.specs.declared.Register.{Register}
 use Rattle.table.specs.Operation.{operationOf}
 use Rattle.alu_rules.specs.Result.{result, outcomeOf}
+use Rattle.alu_rules.proofs.Boundaries.{inEvery}
 
 pub record Line : Type 0 where
   pub word : ℕ
@@ -19,13 +20,13 @@ pub record Line : Type 0 where
 
 -- a word, a halfword and a long in every lane
 abbrev words : ℕ → Register
-words w = record { w0 = w; w1 = w; w2 = w; w3 = w }
+words w = inEvery 32 w
 
 abbrev halfwords : ℕ → Register
-halfwords h = words (h * 2 ^ 16 + h)
+halfwords h = inEvery 16 h
 
 abbrev longs : ℕ → Register
-longs l = record { w0 = l % 2 ^ 32; w1 = l / 2 ^ 32; w2 = l % 2 ^ 32; w3 = l / 2 ^ 32 }
+longs l = inEvery 64 l
 
 -- the words: bits 22..20 of the multiply family, and a short code with its rs2 field
 abbrev multiply : ℕ → ℕ

@@ -1,4 +1,4 @@
--- Bit by bit, once over the width. Carried by one law: bit i of a number is bit i of its k low bits, wherever i is below k.
+-- Bit by bit, once over the width. Carried by one law: bits of a number are those of its k low bits, wherever they are below bit k.
 -- Assumes nothing.
 use Prim.Native.Nat.{ℕ, zero, suc, _+_, _-_, _*_, _/_, _%_, _^_, _≤_, _<_}
 use mathlib.Core.Path.{_≡_, refl, sym, ap, ap₂, _∙_, subst}
@@ -17,11 +17,15 @@ use Rattle.alu_rules.proofs.Integers.{either}
 abbrev pub bit : ℕ → ℕ → ℕ
 bit i x = x / 2 ^ i % 2
 
+-- d bits from bit n on, of a number and of its k low bits
+pub field-of-low : (k n d x : ℕ) → n + d ≤ k → x % 2 ^ k / 2 ^ n % 2 ^ d ≡ x / 2 ^ n % 2 ^ d
+field-of-low k n d x h =
+    let m = k - (n + d) in
+    let e : k ≡ m + d + n = omega arith in
+    ap (λ (j : ℕ). x % 2 ^ j / 2 ^ n % 2 ^ d) e ∙ ap (λ (j : ℕ). j % 2 ^ d) (pow.field x (m + d) n) ∙ pow.mod-mod-pow (x / 2 ^ n) m d
+
 pub bit-of-low : (k i x : ℕ) → i < k → bit i (x % 2 ^ k) ≡ bit i x
-bit-of-low k i x h =
-    let m = k - suc i in
-    let e : k ≡ m + 1 + i = omega arith in
-    ap (λ (n : ℕ). x % 2 ^ n / 2 ^ i % 2) e ∙ ap (λ (n : ℕ). n % 2) (pow.field x (m + 1) i) ∙ pow.mod-mod-pow (x / 2 ^ i) m 1
+bit-of-low k i x h = field-of-low k i 1 x (omega arith)
 
 pub lane-lt : (k i : ℕ) (r : Register) → lane k i r < 2 ^ k
 unfolding lane

@@ -1,9 +1,11 @@
+pub mod Boundaries
 pub mod Integers
 pub mod Clamped
 pub mod Bits
 pub mod Across
 pub mod Operations
 pub mod EachLane
+pub mod Marks
 pub mod Bench
 pub mod Rows
 pub mod Theorems

@@ -1,8 +1,11 @@
--- A lane operation across whole registers, and the multiply family. Operands come in the order rs1, rs2, rs3.
+-- A lane operation across whole registers, those that clamp with their marks, and the multiply family. Operands come in the order rs1, rs2, rs3.
 -- Assumes nothing.
-use Prim.Native.Nat.{ℕ}
+use Prim.Native.Nat.{ℕ, _+_, _*_}
 use mathlib.Core.Bool.{Bool, cond}
+use lib.IntN.{ℤ}
 use Rattle.register.specs.Halves.{low, high, half, join, halves₂}
+use Rattle.alu_rules.specs.declared.Outcome.{Outcome}
+use Rattle.alu_rules.specs.Width.{clamped, isMarked}
 use Rattle.alu_rules.specs.Lane.{multiplyAdd, multiplySubtract}
 use Rattle.register.specs.declared.Register.{Register}
 
@@ -34,12 +37,41 @@ longs₃ f a b c = ofLongs
     (f (join 32 (a .w3) (a .w2)) (join 32 (b .w3) (b .w2)) (join 32 (c .w3) (c .w2)))
     (f (join 32 (a .w1) (a .w0)) (join 32 (b .w1) (b .w0)) (join 32 (c .w1) (c .w0)))
 
+-- "Other instructions give zero."
+abbrev pub unmarked : Register → Outcome
+unmarked v = record { value = v; mark = 0 }
+
+-- 1 where the exact result z of a lane of k bits is marked, else 0: as a lane, the 1 stands in its lowest halfword
+abbrev pub laneMark : ℕ → ℤ → ℕ
+laneMark k z = cond (isMarked k z) 1 0
+
+-- "eight bits, bit i for halfword i, and for a wider lane the bit of its lowest halfword": of a register of such lanes, the two bits of a word, and all eight
+abbrev pub wordBits : ℕ → ℕ
+wordBits w = low 16 w + 2 * high 16 w
+
+abbrev pub bitsOfLanes : Register → ℕ
+bitsOfLanes r = wordBits (r .w0) + 4 * wordBits (r .w1) + 16 * wordBits (r .w2) + 64 * wordBits (r .w3)
+
+-- "The exact result is clamped", and "which lanes were clamped": `lanes g` is the register that has g of its exact result at every lane of k bits
+abbrev pub clampedAcross : ℕ → ((ℤ → ℕ) → Register) → Outcome
+clampedAcross k lanes = record { value = lanes (clamped k); mark = bitsOfLanes (lanes (laneMark k)) }
+
+-- the exact result is f at each halfword of two registers, at each word and at each long of three
+abbrev pub clampedHalfwords : (ℕ → ℕ → ℤ) → Register → Register → Outcome
+clampedHalfwords f a b = clampedAcross 16 (λ (g : ℤ → ℕ). halfwords₂ (λ (x y : ℕ). g (f x y)) a b)
+
+abbrev pub clampedWords : (ℕ → ℕ → ℕ → ℤ) → Register → Register → Register → Outcome
+clampedWords f a b c = clampedAcross 32 (λ (g : ℤ → ℕ). words₃ (λ (x y z : ℕ). g (f x y z)) a b c)
+
+abbrev pub clampedLongs : (ℕ → ℕ → ℕ → ℤ) → Register → Register → Register → Outcome
+clampedLongs f a b c = clampedAcross 64 (λ (g : ℤ → ℕ). longs₃ (λ (x y z : ℕ). g (f x y z)) a b c)
+
 -- "the low or high half of rs3 and of rs2 are multiplied as signed numbers, and the product is added to, or taken from, rs1": one lane, halves of k bits
-abbrev pub multiplyLane : ℕ → Bool → Bool → ℕ → ℕ → ℕ → ℕ
+abbrev pub multiplyLane : ℕ → Bool → Bool → ℕ → ℕ → ℕ → ℤ
 multiplyLane k subtract isHigh rs1 rs2 rs3 =
     cond subtract (multiplySubtract k rs1 (half k isHigh rs3) (half k isHigh rs2)) (multiplyAdd k rs1 (half k isHigh rs3) (half k isHigh rs2))
 
 -- "In each word (long: each long)"
-abbrev pub multiplied : Bool → Bool → Bool → Register → Register → Register → Register
+abbrev pub multiplied : Bool → Bool → Bool → Register → Register → Register → Outcome
 multiplied long subtract isHigh rs1 rs2 rs3 =
-    cond long (longs₃ (multiplyLane 32 subtract isHigh) rs1 rs2 rs3) (words₃ (multiplyLane 16 subtract isHigh) rs1 rs2 rs3)
+    cond long (clampedLongs (multiplyLane 32 subtract isHigh) rs1 rs2 rs3) (clampedWords (multiplyLane 16 subtract isHigh) rs1 rs2 rs3)

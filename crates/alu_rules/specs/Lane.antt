@@ -1,21 +1,22 @@
 -- What each lane operation of document 01's instruction table gives, in the table's order and by its names, on one lane or one word. Operands come in the
--- order rs1, rs2. (li, NOP and BCW move or leave whole parts of a register: they have no lane operation.)
+-- order rs1, rs2. (li, NOP and BCW move or leave whole parts of a register: they have no lane operation.) Of the multiply family, AHS and SFHS it is the exact
+-- result, which is clamped across registers.
 -- Assumes nothing.
 use Prim.Native.Nat.{ℕ, _+_, _*_, _/_, _%_, _^_}
 use mathlib.Core.Bool.{cond}
 use lib.Bits.{bitAnd, bitOr}
 use lib.Count.{onesIn, leadingZeros}
-use lib.IntN.{_+ℤ_, _-ℤ_, _*ℤ_}
+use lib.IntN.{ℤ, _+ℤ_, _-ℤ_, _*ℤ_}
 use lib.Signed.{ltZ}
 use Rattle.register.specs.Halves.{low, halves}
-use Rattle.alu_rules.specs.Width.{signed, clamped, sumModulo, differenceModulo, rotatedRight}
+use Rattle.alu_rules.specs.Width.{signed, sumModulo, differenceModulo, rotatedRight}
 
--- "multiplied as signed numbers, and the product is added to, or taken from, rs1. The exact result is clamped": halves of k bits, rs1 of k + k
-abbrev pub multiplyAdd : ℕ → ℕ → ℕ → ℕ → ℕ
-multiplyAdd k rs1 a b = clamped (k + k) (signed (k + k) rs1 +ℤ signed k a *ℤ signed k b)
+-- "multiplied as signed numbers, and the product is added to, or taken from, rs1": halves of k bits, rs1 of k + k
+abbrev pub multiplyAdd : ℕ → ℕ → ℕ → ℕ → ℤ
+multiplyAdd k rs1 a b = signed (k + k) rs1 +ℤ signed k a *ℤ signed k b
 
-abbrev pub multiplySubtract : ℕ → ℕ → ℕ → ℕ → ℕ
-multiplySubtract k rs1 a b = clamped (k + k) (signed (k + k) rs1 -ℤ signed k a *ℤ signed k b)
+abbrev pub multiplySubtract : ℕ → ℕ → ℕ → ℕ → ℤ
+multiplySubtract k rs1 a b = signed (k + k) rs1 -ℤ signed k a *ℤ signed k b
 
 -- 1 SHRHI: "halfwords shifted right, zeros in, by the low 4 bits of the rs2 field"
 abbrev pub SHRHI : ℕ → ℕ → ℕ
@@ -29,9 +30,9 @@ AU a b = sumModulo 32 a b
 abbrev pub CNTIH : ℕ → ℕ
 CNTIH w = halves 16 (onesIn 16) w
 
--- 4 AHS: "signed halfwords added, clamped to -32768 .. 32767"
-abbrev pub AHS : ℕ → ℕ → ℕ
-AHS a b = clamped 16 (signed 16 a +ℤ signed 16 b)
+-- 4 AHS: "signed halfwords added"
+abbrev pub AHS : ℕ → ℕ → ℤ
+AHS a b = signed 16 a +ℤ signed 16 b
 
 -- 5 OR: "bitwise"
 abbrev pub OR : ℕ → ℕ → ℕ
@@ -69,6 +70,6 @@ ROTW w by = rotatedRight 32 (by % 2 ^ 5) w
 abbrev pub SFWU : ℕ → ℕ → ℕ
 SFWU a b = differenceModulo 32 b a
 
--- 15 SFHS: "rs2 - rs1, signed halfwords, clamped"
-abbrev pub SFHS : ℕ → ℕ → ℕ
-SFHS a b = clamped 16 (signed 16 b -ℤ signed 16 a)
+-- 15 SFHS: "rs2 - rs1, signed halfwords"
+abbrev pub SFHS : ℕ → ℕ → ℤ
+SFHS a b = signed 16 b -ℤ signed 16 a

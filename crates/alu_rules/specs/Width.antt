@@ -1,7 +1,7 @@
--- Numbers of any width k: the signed reading in exact integers and the clamp, sums and differences modulo 2^k, and rotated bits.
+-- Numbers of any width k: the signed reading in exact integers, the clamp and its mark, sums and differences modulo 2^k, and rotated bits.
 -- Assumes nothing.
 use Prim.Native.Nat.{ℕ, suc, _+_, _-_, _*_, _/_, _%_, _^_}
-use mathlib.Core.Bool.{cond}
+use mathlib.Core.Bool.{Bool, cond, _||_}
 use lib.Dec.{ltb}
 use lib.IntN.{ℤ, pos, negsuc, negℤ, _-ℤ_}
 use lib.Signed.{ltZ}
@@ -29,6 +29,10 @@ within lo hi z = cond (ltZ z lo) lo (cond (ltZ hi z) hi z)
 -- "The exact result is clamped": the k bits of z, held between the bounds of k bits
 abbrev pub clamped : ℕ → ℤ → ℕ
 clamped k z = bits k (within (least k) (greatest k) z)
+
+-- "which lanes were clamped": whether z is beyond a bound of k bits, so that the clamp changes it. "A lane that lands on the limit exactly has no mark."
+abbrev pub isMarked : ℕ → ℤ → Bool
+isMarked k z = ltZ z (least k) || ltZ (greatest k) z
 
 -- a + b, modulo 2^k
 abbrev pub sumModulo : ℕ → ℕ → ℕ → ℕ

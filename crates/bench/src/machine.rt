@@ -30,7 +30,10 @@ pub(crate) fn answer_program(line: &[u8]) {
     let file = file_of(case::register(line, 2), zero, zero);
     let mut words = [0u32; MOST];
     case::put_words(line, 3, &mut words);
-    print_executed(plain::execute_all(&words[0..lines], file));
+    let answer = plain::execute_all(&words[0..lines], file);
+    print_executed(answer.executed);
+    let marks = answer.marks;
+    print::marks(&marks);
 }
 
 pub(crate) fn answer_word(line: &[u8]) {
@@ -40,5 +43,8 @@ pub(crate) fn answer_word(line: &[u8]) {
         case::register(line, 4),
     );
     let word = case::code(line, 1).value;
-    print_executed(plain::execute(word, file));
+    let answer = plain::execute(word, file);
+    print_executed(answer.executed);
+    let mark = [answer.mark];
+    print::marks(&mark);
 }

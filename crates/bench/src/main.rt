@@ -8,8 +8,8 @@
 //     read LINES REGISTERS FIRST SECOND SIZE
 //                                      of a file of that size with such a header and zeros behind it: refusal, place, lines, registers
 //     write LINES BYTES ROOM WORD ..   refusal, place, size; the bytes altered, as above; the first eight bytes
-//     plain LINES R1 WORD ..           refusal, place, registers 1 and 4
-//     lone WORD R1 R2 R3               the same
+//     plain LINES R1 WORD ..           refusal, place, registers 1 and 4, the 64 marks
+//     lone WORD R1 R2 R3               the same with one mark
 //     record LINES COUNT CYCLE GONE IF/ID ID/EX EX/WB WORD ..
 //                                      whether it is well made; then a line for each call on it, with the answer and the unit
 //

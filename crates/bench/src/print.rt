@@ -1,10 +1,11 @@
-// What an answer is made of, each part behind a space: numbers, registers, units, and what became of a buffer.
+// What an answer is made of, each part behind a space: numbers, registers, marks, units, and what became of a buffer.
 
 use crate::case::MOST;
 use console::output::print;
 use console::output::write_number;
 use libc::STDOUT_FILENO;
 use register::Register;
+use row::digits::hex;
 use row::values::register_text;
 use row::values::word_text;
 use unit_record::latches::in_decoded;
@@ -22,6 +23,21 @@ pub(crate) fn number(n: usize) {
 pub(crate) fn register(value: Register) {
     print(b" ");
     print(&register_text(value));
+}
+
+fn mark(given: u8) {
+    let bits = given as u32;
+    print(&[hex(bits / 16), hex(bits)]);
+}
+
+// Marks as a row shows them, one after another.
+pub(crate) fn marks(given: &[u8]) {
+    print(b" ");
+    let mut i = 0;
+    while i < given.len() {
+        mark(given[i]);
+        i += 1;
+    }
 }
 
 fn latch(held: IfId) {

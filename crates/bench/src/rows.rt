@@ -15,6 +15,7 @@ use table::Pointer;
 fn full_row() -> Row {
     let outcome = Outcome {
         value: Register::ZERO,
+        mark: 0xA5,
     };
     Row {
         cycle: 67,

@@ -46,9 +46,12 @@ fn decoded(word: Number) -> IdEx {
 }
 
 fn executed(word: Number) -> ExWb {
-    let value = Register::ZERO;
     if word.known {
-        return ExWb::Holds(instruction(word.value), Outcome { value });
+        let outcome = Outcome {
+            value: Register::ZERO,
+            mark: 0xFF,
+        };
+        return ExWb::Holds(instruction(word.value), outcome);
     }
     ExWb::Empty
 }
@@ -62,7 +65,8 @@ fn program_of(line: &[u8]) -> Program {
     }
 }
 
-// Its registers are all ones, so that the zeros of a refusal show; the values in its latches are zeros.
+// Its registers are all ones, so that the zeros of a refusal show; the values in its latches are zeros, and the mark is FF, which zeros never have: a latched mark is
+// free.
 fn record_of(line: &[u8]) -> Unit {
     let ones = Register {
         w0: 0xFFFF_FFFF,

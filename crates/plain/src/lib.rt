@@ -1,16 +1,18 @@
 // The plain machine: one instruction after another on a file of 32 rows of four words, by value.
 
 ghost use mathlib.Core.Path.{_≡_};
-ghost use Rattle.plain_rules.specs.Machine.{plainRows};
+ghost use Rattle.plain_rules.specs.Machine.{executedRows};
 ghost use Rattle.plain_rules.specs.Answer.{answerOf, executeOf, executeAllOf};
 
 pub mod lines;
 mod rows;
 
-use crate::lines::execute_lines;
+use crate::lines::execute_marked;
 use crate::rows::registers_of;
 use crate::rows::rows_of;
 pub use plain_rules::Executed;
+pub use plain_rules::ExecutedProgram;
+pub use plain_rules::ExecutedWord;
 use table::refusal;
 
 // The literal of a struct with a field that is an array of arrays, and the read of that field: the two forms that are proved by hand.
@@ -32,33 +34,42 @@ pub fn file_in(e: Executed) -> [[u32; 4]; 32]
 }
 
 // The words are executed on registers: a row is read and written once a program, and not once a word.
-fn run(program: &[u32], file: [[u32; 4]; 32]) -> [[u32; 4]; 32]
-    ensures { λ r. ⌜ r ≡ plainRows (now (program .entry)) file ⌝ }
+fn run(program: &[u32], file: [[u32; 4]; 32], marks: &mut [u8]) -> [[u32; 4]; 32]
+    ensures { λ r. ⌜ (r, now (marks .exit)) ≡ executedRows (now (program .entry)) file (now (marks .entry)) ⌝ }
 {
     let registers = registers_of(file);
-    let after = execute_lines(program, registers);
+    let after = execute_marked(program, registers, marks);
     rows_of(after)
 }
 
-// Executes a program on a file, one word after another. Refused with 2 over 64 words, then with 6 at the first bad word, and then the file is as it was given.
-pub fn execute_all(program: &[u32], file: [[u32; 4]; 32]) -> Executed
+// Executes a program on a file, one word after another, and answers the marks of its lines, zero beyond them. Refused with 2 over 64 words, then with 6 at the first
+// bad word, and then the file is as it was given and no line has a mark.
+pub fn execute_all(program: &[u32], file: [[u32; 4]; 32]) -> ExecutedProgram
     ensures { λ r. ⌜ r ≡ executeAllOf (now (program .entry)) file ⌝ }
 {
+    let mut marks = [0u8; 64];
     if program.len() > 64 {
-        return answer(refusal::COUNT, 0, file);
+        let executed = answer(refusal::COUNT, 0, file);
+        return ExecutedProgram { executed, marks };
     }
     let bad = refusal::first_bad(program);
     if bad < program.len() {
-        return answer(refusal::WORD, bad, file);
+        let executed = answer(refusal::WORD, bad, file);
+        return ExecutedProgram { executed, marks };
     }
-    let after = run(program, file);
-    answer(0, 0, after)
+    let after = run(program, file, &mut marks);
+    let executed = answer(0, 0, after);
+    ExecutedProgram { executed, marks }
 }
 
-// Executes a lone word, as a program of one line. Refused with 6.
-pub fn execute(word: u32, file: [[u32; 4]; 32]) -> Executed
+// Executes a lone word, as a program of one line, and answers its mark. Refused with 6.
+pub fn execute(word: u32, file: [[u32; 4]; 32]) -> ExecutedWord
     ensures { λ r. ⌜ r ≡ executeOf word file ⌝ }
 {
     let line = [word];
-    execute_all(&line, file)
+    let all = execute_all(&line, file);
+    ExecutedWord {
+        executed: all.executed,
+        mark: all.marks[0],
+    }
 }

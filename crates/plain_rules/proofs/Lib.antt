@@ -1,3 +1,4 @@
 pub mod Boundaries
 pub mod Refusals
 pub mod Theorems
+pub mod Marks

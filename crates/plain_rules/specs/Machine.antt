@@ -32,6 +32,12 @@ module _ {A : Type 0} (read : A → Register) (make : Register → A) (none : A)
   plainOn [] f = f
   plainOn (w ∷ ws) f = plainOn ws (stepOn w f)
 
+  -- the marks of the lines of a program, each of what its word gives, laid over a list so far as it reaches; the rest of the list stays
+  unfoldable pub marksOn : List ℕ → List A → List ℕ → List ℕ
+  marksOn [] f l = l
+  marksOn (w ∷ ws) f [] = []
+  marksOn (w ∷ ws) f (x ∷ l) = outcomeOn w f .mark ∷ marksOn ws (stepOn w f) l
+
 -- the machine on a list of registers
 abbrev pub step : ℕ → List Register → List Register
 step = stepOn (λ (r : Register). r) (λ (r : Register). r) zeroRegister
@@ -39,9 +45,25 @@ step = stepOn (λ (r : Register). r) (λ (r : Register). r) zeroRegister
 abbrev pub plain : List ℕ → List Register → List Register
 plain = plainOn (λ (r : Register). r) (λ (r : Register). r) zeroRegister
 
+abbrev pub marks : List ℕ → List Register → List ℕ → List ℕ
+marks = marksOn (λ (r : Register). r) (λ (r : Register). r) zeroRegister
+
+-- both: what a program leaves of the registers, and its marks
+abbrev pub executedRegisters : List ℕ → List Register → List ℕ → List Register × List ℕ
+executedRegisters p f l = (plain p f, marks p f l)
+
 -- "The register file is 32 rows of four words": the machine on rows
+abbrev pub outcomeRows : ℕ → List (List ℕ) → Outcome
+outcomeRows = outcomeOn ofRow rowOf []
+
 abbrev pub stepRows : ℕ → List (List ℕ) → List (List ℕ)
 stepRows = stepOn ofRow rowOf []
 
 abbrev pub plainRows : List ℕ → List (List ℕ) → List (List ℕ)
 plainRows = plainOn ofRow rowOf []
+
+abbrev pub marksRows : List ℕ → List (List ℕ) → List ℕ → List ℕ
+marksRows = marksOn ofRow rowOf []
+
+abbrev pub executedRows : List ℕ → List (List ℕ) → List ℕ → List (List ℕ) × List ℕ
+executedRows p f l = (plainRows p f, marksRows p f l)

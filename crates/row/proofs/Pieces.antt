@@ -12,12 +12,12 @@ use lib.Seq.{append-snoc}
 use Rattle.buffer.specs.Front.{atFront, fromStart}
 use Rattle.buffer.proofs.Parts.{then-front, at-end}
 use Rattle.register.specs.declared.Register.{Register}
-use Rattle.row_rules.proofs.Lengths.{two-long, stage-long, flags-long, number-long, value-long}
+use Rattle.row_rules.proofs.Lengths.{two-long, stage-long, flags-long, number-long, value-long, mark-long}
 use Rattle.row_rules.specs.declared.Change.{Change}
 use Rattle.row_rules.specs.declared.Flags.{Flags}
 use Rattle.row_rules.specs.declared.Row.{Row}
 use Rattle.row_rules.specs.declared.Stage.{Stage}
-use Rattle.row_rules.specs.Text.{digit, twoDigits, hexDigits, hyphens, stageText, flagsText, numberText, registerText, valueText, behindSpace, newline, rowText}
+use Rattle.row_rules.specs.Text.{digit, twoDigits, hexDigits, hyphens, stageText, flagsText, numberText, registerText, valueText, markText, behindSpace, newline, rowText}
 use Rattle.row.proofs.Stores.{part, back, stored-before, behind-each, end-put}
 
 -- a turn of the loop that writes hyphens
@@ -66,7 +66,9 @@ abbrev pub beginOf : Row → List ℕ
 beginOf r = twoDigits (r .cycle) ++ twoStages (r .fetch) (r .decode) ++ twoStages (r .execute) (r .write)
 
 abbrev pub endOf : Row → List ℕ
-endOf r = behindSpace (flagsText (r .flags)) ++ behindSpace (numberText (r .change)) ++ behindSpace (valueText (r .change)) ++ newline
+endOf r =
+    behindSpace (flagsText (r .flags)) ++ behindSpace (numberText (r .change)) ++ behindSpace (valueText (r .change)) ++ behindSpace (markText (r .change))
+    ++ newline
 
 -- where each of them ends
 half-begun-long : (n : ℕ) (a b : Stage) → length (twoDigits n ++ twoStages a b) ≡ 18
@@ -87,27 +89,32 @@ module _ (f : Flags) where
     value-end : length (behindSpace (flagsText f) ++ behindSpace [] ++ numberText c ++ behindSpace (valueText c)) ≡ 40
     value-end = simp length-append (omega (arith, flags-long f, number-long c, value-long c))
 
-joined : (a b c d e f g h i : List ℕ) → a ++ (b ++ c) ++ (d ++ e) ++ (f ++ g ++ h ++ i) ≡ a ++ b ++ c ++ d ++ e ++ f ++ g ++ h ++ i
-joined a b c d e f g h i = simp append-assoc
+    mark-end : length (behindSpace (flagsText f) ++ behindSpace [] ++ numberText c ++ behindSpace (valueText c) ++ behindSpace (markText c)) ≡ 43
+    mark-end = simp length-append (omega (arith, flags-long f, number-long c, value-long c, mark-long c))
+
+joined : (a b c d e f g h i j : List ℕ) → a ++ (b ++ c) ++ (d ++ e) ++ (f ++ g ++ h ++ i ++ j) ≡ a ++ b ++ c ++ d ++ e ++ f ++ g ++ h ++ i ++ j
+joined a b c d e f g h i j = simp append-assoc
 
 row-joined : (r : Row) → beginOf r ++ endOf r ≡ rowText r
 unfolding rowText
-row-joined r = joined (twoDigits (r .cycle)) _ _ _ _ _ _ _ _
+row-joined r = joined (twoDigits (r .cycle)) _ _ _ _ _ _ _ _ _
 
 -- both words from their places on, and then before each its space
 pub two-stages-put : (a b : Stage) (old : List ℕ) {x y : List ℕ} → 8 < length old → x ≡ atFront (stageText a) (part 1 old)
     → y ≡ atFront (stageText b) (part 9 (back 1 old x)) → set (set (back 9 (back 1 old x) y) 8 32) 0 32 ≡ atFront (twoStages a b) old
 two-stages-put a b old h e f = behind-each 7 32 (stageText a) (stageText b) old _ _ (stage-long a) (omega arith) e f
 
--- number and value behind the flags, and then the space before the value and the newline behind it
-pub row-end-put : (f : Flags) (c : Change) (old : List ℕ) {u v w : List ℕ} → 40 < length old
-    → u ≡ atFront (behindSpace (flagsText f) ++ behindSpace []) old → v ≡ atFront (numberText c) (part 5 u) → w ≡ atFront (valueText c) (part 8 (back 5 u v))
-    → set (set (back 8 (back 5 u v) w) 7 32) 40 10
-    ≡ atFront (behindSpace (flagsText f) ++ behindSpace (numberText c) ++ behindSpace (valueText c) ++ newline) old
-row-end-put f c old h eu ev ew =
+-- number, value and mark behind the flags, and then the spaces before value and mark and the newline behind them
+pub row-end-put : (f : Flags) (c : Change) (old : List ℕ) {u v w x : List ℕ} → 43 < length old
+    → u ≡ atFront (behindSpace (flagsText f) ++ behindSpace []) old → v ≡ atFront (numberText c) (part 5 u)
+    → w ≡ atFront (valueText c) (part 8 (back 5 u v)) → x ≡ atFront (markText c) (part 41 (back 8 (back 5 u v) w))
+    → set (set (set (back 41 (back 8 (back 5 u v) w) x) 7 32) 40 32) 43 10
+    ≡ atFront (behindSpace (flagsText f) ++ behindSpace (numberText c) ++ behindSpace (valueText c) ++ behindSpace (markText c) ++ newline) old
+row-end-put f c old h eu ev ew ex =
     let flags = behindSpace (flagsText f) in
-    end-put 5 7 40 32 10 (flags ++ behindSpace []) (numberText c) (valueText c) old _ _ _ (flags-end f) (number-end f c) (value-end f c) h eu ev ew
-    ∙ ap (λ (l : List ℕ). atFront (l ++ behindSpace (valueText c) ++ newline) old) (append-snoc flags 32 (numberText c))
+    end-put 5 7 40 43 32 10 (flags ++ behindSpace []) (numberText c) (valueText c) (markText c) old _ _ _ _
+    (flags-end f) (number-end f c) (value-end f c) (mark-end f c) h eu ev ew ex
+    ∙ ap (λ (l : List ℕ). atFront (l ++ behindSpace (valueText c) ++ behindSpace (markText c) ++ newline) old) (append-snoc flags 32 (numberText c))
 
 -- ---- the second piece at the front of the part behind the first
 

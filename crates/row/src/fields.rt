@@ -5,7 +5,7 @@ ghost use mathlib.Core.Path.{_≡_};
 ghost use mathlib.Core.List.{[], _++_};
 ghost use lib.ListN.{length};
 ghost use Rattle.buffer.specs.Front.{atFront};
-ghost use Rattle.row_rules.specs.Text.{twoDigits, hexDigits, stageText, flagText, flagsText, numberText, registerText, valueText, behindSpace, newline};
+ghost use Rattle.row_rules.specs.Text.{twoDigits, hexDigits, stageText, flagText, flagsText, numberText, registerText, valueText, markText, behindSpace, newline};
 use crate::digits::put_hex;
 use crate::digits::put_hyphens;
 use crate::digits::put_two;
@@ -104,13 +104,25 @@ fn put_value(out: &mut [u8], change: Change)
     }
 }
 
+fn put_mark(out: &mut [u8], change: Change)
+    requires { ⌜ 2 ≤ length (now out) ⌝ }
+    ensures { λ _. ⌜ now (out .exit) ≡ atFront (markText change) (now (out .entry)) ⌝ }
+{
+    match change {
+        Change::Nothing => put_hyphens(out, 2),
+        Change::To(_, o) => put_hex(out, 2, o.mark as u32),
+    }
+}
+
 pub(crate) fn put_end(out: &mut [u8], flags: Flags, change: Change)
-    requires { ⌜ 41 ≤ length (now out) ⌝ }
-    ensures { λ _. ⌜ now (out .exit) ≡ atFront (behindSpace (flagsText flags) ++ behindSpace (numberText change) ++ behindSpace (valueText change) ++ newline) (now (out .entry)) ⌝ }
+    requires { ⌜ 44 ≤ length (now out) ⌝ }
+    ensures { λ _. ⌜ now (out .exit) ≡ atFront (behindSpace (flagsText flags) ++ behindSpace (numberText change) ++ behindSpace (valueText change) ++ behindSpace (markText change) ++ newline) (now (out .entry)) ⌝ }
 {
     put_flags(out, flags);
     put_number(&mut out[5..], change);
     put_value(&mut out[8..], change);
+    put_mark(&mut out[41..], change);
     out[7] = b' ';
-    out[40] = b'\n';
+    out[40] = b' ';
+    out[43] = b'\n';
 }

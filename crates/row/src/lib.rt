@@ -17,7 +17,7 @@ use row_rules::Row;
 use table::refusal;
 
 // The bytes of a row.
-pub const ROW_SIZE: usize = 75;
+pub const ROW_SIZE: usize = 78;
 
 fn put_row(out: &mut [u8], row: Row)
     requires { ⌜ rowSize ≤ length (now out) ⌝ }
@@ -33,7 +33,7 @@ fn put_row(out: &mut [u8], row: Row)
     put_end(&mut out[34..], flags, change);
 }
 
-// Writes a row into the buffer from `start` on, its 75 bytes and no others. Refused with 9 where there are fewer, and then the buffer is as it was.
+// Writes a row into the buffer from `start` on, its 78 bytes and no others. Refused with 9 where there are fewer, and then the buffer is as it was.
 pub fn write_row(buffer: &mut [u8], start: usize, row: Row) -> u32
     ensures { λ r. ⌜ (r, now (buffer .exit)) ≡ rowAt row start (now (buffer .entry)) ⌝ }
 {

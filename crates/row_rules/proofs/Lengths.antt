@@ -8,7 +8,7 @@ use Rattle.row_rules.specs.declared.Stage.the-variants.{Empty, Holds}
 use Rattle.row_rules.specs.declared.Flags.{Flags}
 use Rattle.row_rules.specs.declared.Change.{Change}
 use Rattle.row_rules.specs.declared.Change.the-variants.{Nothing, To}
-use Rattle.row_rules.specs.Text.{twoDigits, stageText, flagsText, numberText, registerText, valueText}
+use Rattle.row_rules.specs.Text.{twoDigits, stageText, flagsText, numberText, registerText, valueText, markText}
 
 pub two-long : (n : ℕ) → length (twoDigits n) ≡ 2
 unfolding twoDigits
@@ -26,9 +26,14 @@ flags-long f = refl
 pub number-long : (x : Change) → length (numberText x) ≡ 2
 unfolding numberText twoDigits
 number-long Nothing = refl
-number-long (To p v) = refl
+number-long (To p o) = refl
 
 pub value-long : (x : Change) → length (valueText x) ≡ 32
 unfolding valueText registerText
 value-long Nothing = refl
-value-long (To p v) = refl
+value-long (To p o) = refl
+
+pub mark-long : (x : Change) → length (markText x) ≡ 2
+unfolding markText
+mark-long Nothing = refl
+mark-long (To p o) = refl

@@ -1,5 +1,5 @@
--- For the reader of specs/: where each field of a row stands, that digits tell their number, what of the buffer changes, exactly when there is no room, and two
--- rows computed.
+-- For the reader of specs/: where each field of a row stands, that digits tell their number, what of the buffer changes, exactly when there is no room, three
+-- rows computed, and that a row's text tells its mark.
 -- Assumes nothing.
 use Prim.Native.Nat.{ℕ, zero, suc, _+_, _-_, _*_, _/_, _%_, _^_, _≤_, _<_}
 use mathlib.Core.Path.{_≡_, refl, sym, ap, subst, _∙_}
@@ -17,11 +17,12 @@ use Rattle.buffer.specs.Front.{fromStart}
 use Rattle.table.specs.Refusal.{ROOM}
 use Rattle.table.proofs.Decided.{stops, passes, ends, apart, each}
 use Rattle.row_rules.specs.declared.Stage.the-variants.{Empty, Holds}
-use Rattle.row_rules.specs.declared.Change.the-variants.{To}
+use Rattle.row_rules.specs.declared.Change.{Change}
+use Rattle.row_rules.specs.declared.Change.the-variants.{Nothing, To}
 use Rattle.row_rules.specs.declared.Flags.{Flags}
 use Rattle.row_rules.specs.declared.Row.{Row}
-use Rattle.row_rules.specs.Text.{digit, hexDigits, twoDigits, stageText, flagText, flagsText, numberText, registerText, valueText, newline, rowText, rowSize, rowAt}
-use Rattle.row_rules.proofs.Lengths.{two-long, stage-long, flags-long, number-long, value-long}
+use Rattle.row_rules.specs.Text.{digit, hexDigits, twoDigits, stageText, flagText, flagsText, numberText, registerText, valueText, markText, newline, rowText, rowSize, rowAt}
+use Rattle.row_rules.proofs.Lengths.{two-long, stage-long, flags-long, number-long, value-long, mark-long}
 
 -- ---- the text
 
@@ -34,14 +35,14 @@ all-spaced : spaced [] ≡ newline
 unfolding spaced
 all-spaced = refl
 
-nested : (a b c d e f g h i : List ℕ) → a ++ b ++ c ++ d ++ e ++ f ++ g ++ h ++ i ≡ a ++ (b ++ (c ++ (d ++ (e ++ (f ++ (g ++ (h ++ i)))))))
-nested a b c d e f g h i = simp append-assoc
+nested : (a b c d e f g h i j : List ℕ) → a ++ b ++ c ++ d ++ e ++ f ++ g ++ h ++ i ++ j ≡ a ++ (b ++ (c ++ (d ++ (e ++ (f ++ (g ++ (h ++ (i ++ j))))))))
+nested a b c d e f g h i j = simp append-assoc
 
 row-spaced : (r : Row) → rowText r ≡ twoDigits (r .cycle) ++ spaced (
     stageText (r .fetch) ∷ stageText (r .decode) ∷ stageText (r .execute) ∷ stageText (r .write)
-    ∷ flagsText (r .flags) ∷ numberText (r .change) ∷ valueText (r .change) ∷ [])
+    ∷ flagsText (r .flags) ∷ numberText (r .change) ∷ valueText (r .change) ∷ markText (r .change) ∷ [])
 unfolding rowText spaced
-row-spaced r = nested (twoDigits (r .cycle)) _ _ _ _ _ _ _ _
+row-spaced r = nested (twoDigits (r .cycle)) _ _ _ _ _ _ _ _ _
 
 -- the next field, of k bytes, and what stands behind it
 there : (a k : ℕ) (l q : List ℕ) (qs : List (List ℕ)) → length q ≡ k → drop a l ≡ spaced (q ∷ qs)
@@ -63,7 +64,8 @@ pub row-places : (r : Row)
     × (take 3 (drop 35 (rowText r)) ≡ flagsText (r .flags))
     × (take 2 (drop 39 (rowText r)) ≡ numberText (r .change))
     × (take 32 (drop 42 (rowText r)) ≡ valueText (r .change))
-    × (drop 74 (rowText r) ≡ newline)
+    × (take 2 (drop 75 (rowText r)) ≡ markText (r .change))
+    × (drop 77 (rowText r) ≡ newline)
 row-places r =
     let l = rowText r in
     let two = two-long (r .cycle) in
@@ -74,17 +76,18 @@ row-places r =
     let x = there 34 3 l _ _ (flags-long (r .flags)) (w .1) in
     let n = there 38 2 l _ _ (number-long (r .change)) (x .1) in
     let v = there 41 32 l _ _ (value-long (r .change)) (n .1) in
-    (ap (take 2) (row-spaced r) ∙ take-at (twoDigits (r .cycle)) _ 2 two, f .0, d .0, e .0, w .0, x .0, n .0, v .0, v .1 ∙ all-spaced)
+    let m = there 74 2 l _ _ (mark-long (r .change)) (v .1) in
+    (ap (take 2) (row-spaced r) ∙ take-at (twoDigits (r .cycle)) _ 2 two, f .0, d .0, e .0, w .0, x .0, n .0, v .0, m .0, m .1 ∙ all-spaced)
 
--- "75 bytes"
+-- "a row is 78 bytes"
 pub row-size : (r : Row) → length (rowText r) ≡ rowSize
-row-size r = let end = row-places r .8 in omega (arith, length-drop 74 (rowText r), ap length end)
+row-size r = let end = row-places r .9 in omega (arith, length-drop 77 (rowText r), ap length end)
 
 -- ---- the digits tell the number
 
--- the digit that a code stands for
+-- the digit that a code stands for, and 16, which is none, for the hyphen
 abbrev meant : ℕ → ℕ
-meant x = cond (ltb x 65) (x - 48) (x - 55)
+meant x = cond (eqb x 45) 16 (cond (ltb x 65) (x - 48) (x - 55))
 
 -- n numbers from a on
 abbrev counted : ℕ → ℕ → List ℕ
@@ -186,9 +189,9 @@ module _ (r : Row) (start : ℕ) (buffer : List ℕ) where
   unfolding rowAt
   refused-unaltered = each (λ (z : ℕ × List ℕ). (z .0 ≡ 0 → ⊥) → z .1 ≡ buffer) _ _ (λ h. refl, tt) (λ h. absurd (h refl))
 
--- ---- two rows, computed
+-- ---- three rows, computed
 
--- the largest numbers: 67 0ABCDEF 1FFFFFF ------- 1234567 101 31 89ABCDEF0123456776543210FEDCBA98
+-- the largest numbers: 67 0ABCDEF 1FFFFFF ------- 1234567 101 31 89ABCDEF0123456776543210FEDCBA98 A5
 pub row-sixty-seven : rowText (record {
   cycle = 67;
   fetch = Holds 0xABCDEF;
@@ -196,7 +199,7 @@ pub row-sixty-seven : rowText (record {
   execute = Empty;
   write = Holds 0x1234567;
   flags = record { rs1 = true; rs2 = false; rs3 = true };
-  change = To (record { 0 = 31 }) (record { value = record { w0 = 0xFEDCBA98; w1 = 0x76543210; w2 = 0x1234567; w3 = 0x89ABCDEF } });
+  change = To (record { 0 = 31 }) (record { value = record { w0 = 0xFEDCBA98; w1 = 0x76543210; w2 = 0x1234567; w3 = 0x89ABCDEF }; mark = 0xA5 });
 })
     ≡ 54 ∷ 55
     ∷ 32 ∷ 48 ∷ 65 ∷ 66 ∷ 67 ∷ 68 ∷ 69 ∷ 70
@@ -207,12 +210,34 @@ pub row-sixty-seven : rowText (record {
     ∷ 32 ∷ 51 ∷ 49
     ∷ 32 ∷ 56 ∷ 57 ∷ 65 ∷ 66 ∷ 67 ∷ 68 ∷ 69 ∷ 70 ∷ 48 ∷ 49 ∷ 50 ∷ 51 ∷ 52 ∷ 53 ∷ 54 ∷ 55
     ∷ 55 ∷ 54 ∷ 53 ∷ 52 ∷ 51 ∷ 50 ∷ 49 ∷ 48 ∷ 70 ∷ 69 ∷ 68 ∷ 67 ∷ 66 ∷ 65 ∷ 57 ∷ 56
+    ∷ 32 ∷ 65 ∷ 53
     ∷ 10 ∷ []
-unfolding twoDigits stageText flagsText numberText registerText valueText rowText
+unfolding twoDigits stageText flagsText numberText registerText valueText markText rowText
 row-sixty-seven = refl
 
--- the document's example
--- 04 ------- ------- 1810422 00000A1 110 01 00000000000000000000000000000005
+-- two rows of the document's example, with their marks: where nothing is written, and li's, which is zero
+-- 03 ------- 1810422 00000A1 ------- 000 -- -------------------------------- --
+pub row-three : rowText (record {
+  cycle = 3;
+  fetch = Empty;
+  decode = Holds 0x1810422;
+  execute = Holds 0xA1;
+  write = Empty;
+  flags = record { rs1 = false; rs2 = false; rs3 = false };
+  change = Nothing;
+})
+    ≡ 48 ∷ 51
+    ∷ 32 ∷ 45 ∷ 45 ∷ 45 ∷ 45 ∷ 45 ∷ 45 ∷ 45
+    ∷ 32 ∷ 49 ∷ 56 ∷ 49 ∷ 48 ∷ 52 ∷ 50 ∷ 50
+    ∷ 32 ∷ 48 ∷ 48 ∷ 48 ∷ 48 ∷ 48 ∷ 65 ∷ 49
+    ∷ 32 ∷ 45 ∷ 45 ∷ 45 ∷ 45 ∷ 45 ∷ 45 ∷ 45
+    ∷ 32 ∷ 48 ∷ 48 ∷ 48
+    ∷ 32 ∷ 45 ∷ 45
+    ∷ 32 ∷ (replicate 32 45 ++ (32 ∷ 45 ∷ 45 ∷ 10 ∷ []))
+unfolding twoDigits stageText flagsText numberText registerText valueText markText rowText
+row-three = refl
+
+-- 04 ------- ------- 1810422 00000A1 110 01 00000000000000000000000000000005 00
 pub row-four : rowText (record {
   cycle = 4;
   fetch = Empty;
@@ -220,7 +245,7 @@ pub row-four : rowText (record {
   execute = Holds 0x1810422;
   write = Holds 0xA1;
   flags = record { rs1 = true; rs2 = true; rs3 = false };
-  change = To (record { 0 = 1 }) (record { value = record { w0 = 5; w1 = 0; w2 = 0; w3 = 0 } });
+  change = To (record { 0 = 1 }) (record { value = record { w0 = 5; w1 = 0; w2 = 0; w3 = 0 }; mark = 0 });
 })
     ≡ 48 ∷ 52
     ∷ 32 ∷ 45 ∷ 45 ∷ 45 ∷ 45 ∷ 45 ∷ 45 ∷ 45
@@ -229,6 +254,30 @@ pub row-four : rowText (record {
     ∷ 32 ∷ 48 ∷ 48 ∷ 48 ∷ 48 ∷ 48 ∷ 65 ∷ 49
     ∷ 32 ∷ 49 ∷ 49 ∷ 48
     ∷ 32 ∷ 48 ∷ 49
-    ∷ 32 ∷ (replicate 31 48 ++ (53 ∷ 10 ∷ []))
-unfolding twoDigits stageText flagsText numberText registerText valueText rowText
+    ∷ 32 ∷ (replicate 31 48 ++ (53 ∷ 32 ∷ 48 ∷ 48 ∷ 10 ∷ []))
+unfolding twoDigits stageText flagsText numberText registerText valueText markText rowText
 row-four = refl
+
+-- ---- the text tells the mark
+
+-- no digit is a hyphen
+no-hyphen : (d : ℕ) → d < 16 → digit d ≡ 45 → ⊥
+no-hyphen d h e = let none : d ≡ 16 = sym (digit-meant d h) ∙ ap meant e in omega arith
+
+-- both write and their marks agree as bytes, or neither writes
+abbrev pub SameMark : Change → Change → Type 0
+SameMark Nothing Nothing = Unit
+SameMark Nothing (To q u) = ⊥
+SameMark (To p o) Nothing = ⊥
+SameMark (To p o) (To q u) = o .mark % 2 ^ 8 ≡ u .mark % 2 ^ 8
+
+mark-told : (c d : Change) → markText c ≡ markText d → SameMark c d
+unfolding markText
+mark-told Nothing Nothing e = tt
+mark-told Nothing (To q u) e = no-hyphen (u .mark / 16 % 16) (omega arith) (sym (ap (λ (l : List ℕ). getD l 0 0) e))
+mark-told (To p o) Nothing e = no-hyphen (o .mark / 16 % 16) (omega arith) (ap (λ (l : List ℕ). getD l 0 0) e)
+mark-told (To p o) (To q u) e = same-hex 2 (o .mark) (u .mark) e
+
+-- two rows with the same text
+pub same-mark : (r s : Row) → rowText r ≡ rowText s → SameMark (r .change) (s .change)
+same-mark r s e = mark-told (r .change) (s .change) (sym (row-places r .8) ∙ ap (λ (l : List ℕ). take 2 (drop 75 l)) e ∙ row-places s .8)

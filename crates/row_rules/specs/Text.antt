@@ -57,6 +57,11 @@ unfoldable pub valueText : Change → List ℕ
 valueText Nothing = hyphens 32
 valueText (To p o) = registerText (o .value)
 
+-- "a space and two upper-case hex digits before the newline, `--` where nothing is written"
+unfoldable pub markText : Change → List ℕ
+markText Nothing = hyphens 2
+markText (To p o) = hexDigits 2 (o .mark)
+
 -- "Fields, with one space between": every field but the first stands behind a space
 abbrev pub behindSpace : List ℕ → List ℕ
 behindSpace field = 32 ∷ field
@@ -70,12 +75,12 @@ rowText r =
     ++ behindSpace (stageText (r .fetch)) ++ behindSpace (stageText (r .decode))
     ++ behindSpace (stageText (r .execute)) ++ behindSpace (stageText (r .write))
     ++ behindSpace (flagsText (r .flags))
-    ++ behindSpace (numberText (r .change)) ++ behindSpace (valueText (r .change))
+    ++ behindSpace (numberText (r .change)) ++ behindSpace (valueText (r .change)) ++ behindSpace (markText (r .change))
     ++ newline
 
--- "75 bytes"
+-- "a row is 78 bytes"
 abbrev pub rowSize : ℕ
-rowSize = 75
+rowSize = 78
 
 -- "A row is written into the lent buffer from a stated start"; 9 with "too few bytes from the stated start in a lent buffer, or a start beyond its end": the
 -- answer, and the buffer afterwards

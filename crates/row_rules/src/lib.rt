@@ -22,7 +22,7 @@ pub struct Flags {
 pub enum Change {
     // WB writes nothing: hyphens
     Nothing,
-    // the register, and the outcome with its new value
+    // the register, and the outcome with its new value and its mark
     To(Pointer, Outcome),
 }
 

@@ -127,7 +127,13 @@ fn change_to(target: Target, outcome: Outcome) -> Change
                 w2: v.w2,
                 w3: v.w3,
             };
-            Change::To(p, Outcome { value })
+            Change::To(
+                p,
+                Outcome {
+                    value,
+                    mark: outcome.mark,
+                },
+            )
         }
     }
 }

@@ -7,6 +7,7 @@ use mathlib.Core.List.{List, [], _∷_, map}
 use Rattle.register.specs.Layout.{zeroRegister}
 use Rattle.table.specs.Fields.{firstOf}
 use Rattle.table.specs.Operation.{operationOf, targetOf}
+use Rattle.alu_rules.specs.Across.{unmarked}
 use Rattle.row_rules.specs.declared.Flags.{Flags}
 use Rattle.unit_rules.specs.declared.ExWb.{ExWb}
 use Rattle.unit_rules.specs.declared.ExWb.the-variants.{Holds}
@@ -27,7 +28,7 @@ third = record { rs1 = false; rs2 = false; rs3 = true }
 
 -- WB holds an li of this register
 abbrev writing : ℕ → ExWb
-writing rd = Holds (instructionOf rd) (record { value = zeroRegister })
+writing rd = Holds (instructionOf rd) (unmarked zeroRegister)
 
 -- a word's flags where WB writes register 1, 2, 3 and 4; of the words below, bits 4..0 name 1, bits 9..5 name 2 and bits 14..10 name 3,
 -- and of the multiply and the li bits 19..15 name 4

@@ -4,11 +4,12 @@ use Rattle.unit_rules.proofs.Shared.{ℕ, zero, suc, _+_, _-_, _<_, _≤_, _≡
 use Rattle.unit_rules.proofs.Shared.{and-false, List, arith, leb-false, lt-ltb, lt-leb, le-leb, ltb-true, ltb-false, leb, ltb, length, take, STATE, DRAINED, ROOM, Register, Pointer, Target, None, isLi}
 use Rattle.unit_rules.proofs.Shared.{rdOf, firstOf, rs2Of, rs3Of, Operation, operationOf, readsOf, takesFirst, takesSecond, takesThird, isNop, targetOf, stored}
 use Rattle.unit_rules.proofs.Shared.{plain, linesOf, instructionOf, instructionAt, fetchedIn, isTarget, newest, readBy, newestOperands, afterWB, afterEX, cycleOf, inDecoded}
-use Rattle.unit_rules.proofs.Shared.{inExecuted, decodedWith, lastOf, drainedOf, wellMadeOf, goOf, cycledOf, Whole, afterCalls, unitAfter, madeUnless, cyclesIn}
+use Rattle.unit_rules.proofs.Shared.{false≢true, map, getD, rowOf, inExecuted, decodedWith, lastOf, drainedOf, wellMadeOf, goOf, cycledOf, Whole, afterCalls, unitAfter, madeUnless, cyclesIn}
 use Rattle.table.specs.declared.Target.the-variants.{To as ToRegister}
 use Rattle.table.proofs.Decided.{stops, passes, ends, apart, each, not-denied}
 use Rattle.alu_rules.specs.declared.Outcome.{Outcome}
 use Rattle.job_rules.specs.declared.Program.{Program}
+use Rattle.plain_rules.specs.Answer.{executeAllOf}
 use Rattle.row_rules.specs.declared.Stage.{Stage}
 use Rattle.row_rules.specs.declared.Stage.the-variants as In
 use Rattle.row_rules.specs.declared.Change.{Change}
@@ -24,15 +25,15 @@ use Rattle.unit_rules.specs.declared.ExWb.{ExWb}
 use Rattle.unit_rules.specs.declared.ExWb.the-variants as EX/WB
 use Rattle.unit_rules.specs.declared.Unit.{Unit}
 use Rattle.unit_rules.specs.declared.Cycled.{Cycled}
-use Rattle.unit_rules.specs.Cycle.{worked}
+use Rattle.unit_rules.specs.Cycle.{worked, markIn}
 use Rattle.unit_rules.specs.Sequence.Call.{row}
 use Rattle.unit_rules.proofs.Positions.{placed-cycle, drained-is, not-drained-gone}
 use Rattle.unit_rules.proofs.WellMade.{well-made-says, last-small}
-use Rattle.unit_rules.proofs.Demand3.{demand3-number, demand3-registers, demand3-cycle-answers}
+use Rattle.unit_rules.proofs.Demand3.{demand3-number, demand3-registers, demand3-cycle-answers, demand3-marks}
 use Rattle.trace_rules.proofs.Going.{goes}
 use Rattle.trace_rules.specs.RowOfCycle.{stageOf, writesTo, flagOf, flagsFor, flagsOf, changeTo, changeOf, shownBy, shownOf}
 use Rattle.trace_rules.specs.Call.{tracedOf}
-use Rattle.trace_rules.specs.Happened.{changedBy, isNothing, writesNothing, shows, flagsShown, operandShown, operandsShown}
+use Rattle.trace_rules.specs.Happened.{changedBy, isNothing, markShown, writesNothing, shows, flagsShown, operandShown, operandsShown}
 
 -- ---- the stages
 
@@ -283,3 +284,20 @@ module _ (u : Unit) (whole : Whole (u .registers)) (made : wellMadeOf u ≡ true
       ∙ ap (λ (v : Unit). v .registers) next
       ∙ row-change before
       ∙ ap (changedBy (shownOf before .change)) (demand3-registers u whole made c (omega arith))
+
+-- the mark of a latch is shown with the register that is written
+mark-by : (latch : ExWb) → isNothing (changeOf latch) ≡ false → markShown (changeOf latch) ≡ markIn latch
+mark-by EX/WB.Empty e = refl
+mark-by (EX/WB.Holds i o) e = go (i .target) e
+  where
+    go : (t : Target) → isNothing (changeTo t o) ≡ false → markShown (changeTo t o) ≡ o .mark
+    go None f = absurd (false≢true (sym f))
+    go (ToRegister p) f = refl
+
+-- "The mark travels through the latch to the row": the row of cycle k + 4 since a go, which has line k in WB, shows the mark that plain execution answers for that line, where
+-- it does not show `--`
+module _ (u : Unit) (whole : Whole (u .registers)) (made : wellMadeOf u ≡ true) (k : ℕ) (line : k < u .program .n .0) where
+  pub gone-mark : (let shown = shownOf (afterCalls (k + 3) (goOf u .unit)) .change in
+      isNothing shown ≡ false → markShown shown ≡ getD (executeAllOf (linesOf (u .program)) (map rowOf (u .registers)) .marks) k 0)
+  unfolding shownBy
+  gone-mark writes = mark-by (afterCalls (k + 3) (goOf u .unit) .executed) writes ∙ demand3-marks u whole made k line

@@ -1,5 +1,6 @@
 -- What happened in a cycle, as its row says it.
 -- Assumes nothing.
+use Prim.Native.Nat.{ℕ}
 use mathlib.Core.Bool.{Bool, true, false, cond, _&&_}
 use mathlib.Core.List.{List}
 use lib.Dec.{eqb}
@@ -24,6 +25,11 @@ changedBy (To p o) f = set f (p .0) (o .value)
 abbrev pub isNothing : Change → Bool
 isNothing Nothing = true
 isNothing (To p o) = false
+
+-- the mark that a row shows, where it does not show `--`
+abbrev pub markShown : Change → ℕ
+markShown Nothing = 0
+markShown (To p o) = o .mark
 
 -- whether the word that a row shows in WB writes nothing: "it is empty or holds a NOP"
 abbrev pub writesNothing : Stage → Bool

@@ -67,7 +67,7 @@ writeTextOf file buffer = putOf (jobText file) buffer
 
 -- the bytes of the largest text: 67 rows and a line of END
 abbrev pub largestText : ℕ
-largestText = 5032
+largestText = 5233
 
 -- a text by value: at the front of so many zeros, with its size
 abbrev pub wholeTextOf : List ℕ → WholeText

@@ -50,7 +50,7 @@ abbrev pub flagsOf : ExWb → IdEx → Flags
 flagsOf wb ID/EX.Empty = record { rs1 = false; rs2 = false; rs3 = false }
 flagsOf wb (ID/EX.Holds i o) = flagsFor wb i
 
--- "the register written", "its new value"
+-- "the register written", "its new value"; "The mark travels through the latch to the row": the outcome has both
 abbrev pub changeTo : Target → Outcome → Change
 changeTo None o = Nothing
 changeTo (ToRegister p) o = To p o

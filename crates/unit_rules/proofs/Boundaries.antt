@@ -1,5 +1,5 @@
 -- A well-made record in either state, a load while a unit runs, and a register's number at their boundaries: what is just taken, and what is just not; that 10 is
--- tested first; and which calls end what demand 3 says. Carried by computing the tests.
+-- tested first; which calls end what demand 3 says; and whose mark EX/WB has. Carried by computing.
 -- Assumes nothing.
 use mathlib.Core.Path.{_≡_, refl}
 use mathlib.Core.Bool.{Bool, true, false}
@@ -13,6 +13,8 @@ use Rattle.table.specs.Decided.{decided}
 use Rattle.table.specs.Fields.{firstOf}
 use Rattle.table.specs.Operation.{operationOf, targetOf}
 use Rattle.table.specs.Refusal.{firstBad}
+use Rattle.alu_rules.specs.Width.{signed, bits, within}
+use Rattle.alu_rules.specs.Result.{result, outcomeOf}
 use Rattle.job_rules.specs.declared.Program.{Program}
 use Rattle.job_rules.specs.Read.{headerOf, testedOf, bodyOf}
 use Rattle.unit_rules.specs.declared.IfId.{IfId}
@@ -20,7 +22,7 @@ use Rattle.unit_rules.specs.declared.IfId.the-variants as IF/ID
 use Rattle.unit_rules.specs.declared.IdEx.the-variants as ID/EX
 use Rattle.unit_rules.specs.declared.ExWb.the-variants as EX/WB
 use Rattle.unit_rules.specs.declared.Unit.{Unit}
-use Rattle.unit_rules.specs.Cycle.{instructionOf, cycleOf, cyclesOf}
+use Rattle.unit_rules.specs.Cycle.{instructionOf, markIn, cycleOf, cyclesOf}
 use Rattle.unit_rules.specs.Record.{programMade, numbersMade, drainedOf, wellMadeOf}
 use Rattle.unit_rules.specs.Stages.{inFlightOf, unitWith}
 use Rattle.unit_rules.specs.Sequence.{Call, cyclesIn, renews, renewsInAll}
@@ -112,6 +114,14 @@ pub loaded-rests : (loadedUnit .program .n .0 ∷ cycledOf loadedUnit .refusal �
     ≡ (1 ∷ 8 ∷ 0 ∷ 4 ∷ [])
 unfolding loadOf goOf cycledOf ranOf goesOn decided wellMadeOf drainedOf cycleOf firstBad firstOf operationOf targetOf headerOf testedOf bodyOf
 loaded-rests = refl
+
+-- AHS of a register with itself, which clamps halfword 0, and AU behind it, cycle by cycle: EX/WB has the mark of the line that it holds, and of no other
+abbrev clamping : Unit
+clamping = begunOf true (lines (0x1820001 ∷ 0x1810002 ∷ [])) (replicate 32 (record { w0 = 0x7FFF; w1 = 0; w2 = 0; w3 = 0 }))
+
+pub mark-of-its-own-line : map (λ (c : ℕ). markIn (cyclesOf c clamping .executed)) (2 ∷ 3 ∷ 4 ∷ 5 ∷ []) ≡ (0 ∷ 1 ∷ 0 ∷ 0 ∷ [])
+unfolding cyclesOf cycleOf firstOf operationOf targetOf outcomeOf result signed bits within
+mark-of-its-own-line = refl
 
 -- each "tests 10 first": of a unit that is not well made, at cycle 1 of no lines, a file of no bytes, and a register over 31; and a load of one that is not drained either
 abbrev illMade : Unit

@@ -1,19 +1,25 @@
 -- Demand 3, which "counts from the last go, takes the registers as they stood then and holds until the next go or load": for every well-made unit, whatever it was doing before. Stated over what the calls
 -- promise (specs/Calls.antt), one after another (specs/Sequence.antt). A unit's file of registers is 32 long (`Whole`), as `[Register; 32]` is.
 -- Assumes nothing.
-use Rattle.unit_rules.proofs.Shared.{ℕ, _+_, _-_, _≤_, _<_, min, _≡_, refl, sym, ap, subst, _∙_, _↔_, Bool, true, false, cond, List, map, zero-add}
-use Rattle.unit_rules.proofs.Shared.{le-refl, arith, eqb-true, leb-true, leb-false, eqb, leb, getD, take, length, take-all}
+use Rattle.unit_rules.proofs.Shared.{ℕ, suc, _+_, _-_, _≤_, _<_, min, _≡_, refl, sym, ap, subst, _∙_, _↔_, Bool, true, false, cond, List, map, zero-add}
+use Rattle.unit_rules.proofs.Shared.{le-refl, arith, lt-ltb, eqb-true, leb-true, leb-false, eqb, leb, getD, take, length, getD-take, take-all}
+use Rattle.unit_rules.proofs.Shared.EX/WB
 use Rattle.unit_rules.proofs.Shared.{length-take-le, Register, zeroRegister, rowOf, DRAINED, STATE, BUSY, plain, plainRows, registers-as-rows, Job}
-use Rattle.unit_rules.proofs.Shared.{instructionsAt, readOf, Program, linesOf, Unit, fetchedIn, Cycled, cyclesOf, inDecoded, inExecuted, drainedOf, lastOf}
+use Rattle.unit_rules.proofs.Shared.{instructionsAt, readOf, Program, linesOf, Unit, instructionAt, afterEX, afterID, fetchedIn, Cycled, cyclesOf, inDecoded, inExecuted, drainedOf, lastOf}
 use Rattle.unit_rules.proofs.Shared.{wellMadeOf, begunOf, goneOf, registersSet, loadOf, goOf, cycledOf, ranOf, askedDrained, Whole, afterCalls}
 use Rattle.unit_rules.proofs.Shared.{Call, unitAfterAll, cyclesInAll, renewsInAll, unitWith}
-use Rattle.plain_rules.specs.Answer.{answerOf, executeAllOf}
+use Rattle.plain_rules.specs.declared.ExecutedProgram.{ExecutedProgram}
+use Rattle.plain_rules.specs.Machine.{outcomeOn, marksRows}
+use Rattle.plain_rules.specs.Answer.{answerOf, noMarks, executeAllOf}
 use Rattle.plain_rules.proofs.Refusals.{executed}
+use Rattle.plain_rules.proofs.Theorems.{marks-of-registers}
+use Rattle.plain_rules.proofs.Marks.{mark-of-line}
 use Rattle.table.proofs.Decided.{passes, ends, not-denied}
 use Rattle.unit_rules.specs.declared.Loaded.{Loaded}
 use Rattle.unit_rules.specs.declared.Gone.{Gone}
 use Rattle.unit_rules.specs.declared.Drained.{Drained}
 use Rattle.unit_rules.specs.Sequence.Call.{go}
+use Rattle.unit_rules.specs.Cycle.{markIn}
 use Rattle.unit_rules.specs.Settled.{settledFlight}
 use Rattle.unit_rules.proofs.Positions.{drained-after, drained-loaded, cycles-program, cycles-number, cycles-gone}
 use Rattle.unit_rules.proofs.Settled.{id-told, ex-told}
@@ -45,6 +51,10 @@ last-lines n = go (eqb n 0) refl
     go : (t : Bool) → eqb n 0 ≡ t → n ≤ cond t 0 (n + 3) - 3
     go true q = omega (arith, eqb-true n 0 q)
     go false q = omega arith
+
+-- line k reaches EX/WB before the last cycle
+in-time : (n k : ℕ) → k < n → k + 3 ≤ lastOf n
+in-time n k h = omega (arith, last-lines n)
 
 module _ (u : Unit) (whole : Whole (u .registers)) (made : wellMadeOf u ≡ true) where
   -- the n lines of the loaded program; the unit after the go
@@ -178,16 +188,43 @@ module _ (u : Unit) (whole : Whole (u .registers)) (made : wellMadeOf u ≡ true
   pub demand3-rows : (c : ℕ) → c ≤ lastOf n → map rowOf (afterCalls c gone .registers) ≡ plainRows (take (c - 3) lines) (map rowOf (u .registers))
   demand3-rows c h = ap (map rowOf) (demand3-registers c h) ∙ registers-as-rows (take (c - 3) lines) (u .registers)
 
+  all-lines : length lines ≡ n
+  all-lines = length-take-le n (u .program .words) (enough-words u before)
+
+  -- what crate `plain` answers for the whole program
+  abbrev answered : ExecutedProgram
+  answered = executeAllOf lines (map rowOf (u .registers))
+
+  is-answered : answered ≡ record { executed = answerOf 0 0 (plainRows lines (map rowOf (u .registers))); marks = marksRows lines (map rowOf (u .registers)) noMarks }
+  is-answered = executed lines (map rowOf (u .registers)) (omega (arith, all-lines, before .few)) (omega (arith, all-lines, before .good))
+
   -- Drained, they are what crate `plain` answers for the whole program.
-  pub demand3-drained-rows : executeAllOf lines (map rowOf (u .registers)) ≡ answerOf 0 0 (map rowOf (afterCalls (lastOf n) gone .registers))
+  pub demand3-drained-rows : answered .executed ≡ answerOf 0 0 (map rowOf (afterCalls (lastOf n) gone .registers))
   demand3-drained-rows =
-      executed lines (map rowOf (u .registers)) (omega (arith, size, before .few)) (omega (arith, size, before .good))
+      ap (λ (a : ExecutedProgram). a .executed) is-answered
       ∙ ap (answerOf 0 0)
-      (ap (λ (p : List ℕ). plainRows p (map rowOf (u .registers))) (sym (take-all (lastOf n - 3) lines (omega (arith, size, last-lines n))))
+      (ap (λ (p : List ℕ). plainRows p (map rowOf (u .registers))) (sym (take-all (lastOf n - 3) lines (omega (arith, all-lines, last-lines n))))
       ∙ sym (demand3-rows (lastOf n) (le-refl (lastOf n))))
-    where
-      size : length lines ≡ n
-      size = length-take-le n (u .program .words) (enough-words u before)
+
+  -- ---- what each line gives, value and mark
+
+  -- After k + 3 cycles EX/WB holds line k, with what the plain machine makes of it on the registers that the lines before it leave.
+  pub demand3-outcome : (k : ℕ) → k < n
+      → afterCalls (k + 3) gone .executed ≡ EX/WB.Holds (instructionAt (u .program) k) (outcomeOn (λ r. r) (λ r. r) zeroRegister (getD lines k 0) (plain (take k lines) (u .registers)))
+  demand3-outcome k h =
+      let c : k + 3 - 2 ≡ suc k = omega arith in
+      let m : k + 3 - 3 ≡ k = omega arith in
+      ap (λ (v : Unit). v .executed) (demand3-unit (k + 3) (in-time n k h))
+      ∙ (λ i. afterEX EX/WB.Empty (afterID (fetchedIn (u .program) (c i)) (plain (take (m i) lines) (u .registers))))
+      ∙ rw (lt-ltb k n h) (ap (λ (w : ℕ). EX/WB.Holds (instructionAt (u .program) k) (outcomeOn (λ r. r) (λ r. r) zeroRegister w (plain (take k lines) (u .registers)))) (sym (getD-take n (u .program .words) k 0 h)))
+
+  -- So its mark is the one that crate `plain` answers for that line.
+  pub demand3-marks : (k : ℕ) → k < n → markIn (afterCalls (k + 3) gone .executed) ≡ getD (answered .marks) k 0
+  demand3-marks k h =
+      ap markIn (demand3-outcome k h)
+      ∙ sym (ap (λ (a : ExecutedProgram). getD (a .marks) k 0) is-answered
+      ∙ ap (λ (l : List ℕ). getD l k 0) (marks-of-registers lines (u .registers) noMarks)
+      ∙ mark-of-line (λ r. r) (λ r. r) zeroRegister lines k (u .registers) noMarks (omega (arith, all-lines)) (omega (arith, before .few)))
 
 -- ---- a load
 

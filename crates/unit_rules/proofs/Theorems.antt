@@ -3,7 +3,7 @@
 -- Assumes nothing.
 use Rattle.unit_rules.proofs.Shared.{ℕ, zero, suc, _+_, _≤_, _<_, _≡_, refl, sym, ap, subst, _∙_, _↔_, Bool, true, false, cond, not, _&&_, _||_, List}
 use Rattle.unit_rules.proofs.Shared.{arith, lt-ltb, le-ltb, leb-true, le-leb, eq-eqb, eqb-false, leb, eqb, getD, length-replicate, Register, zeroRegister, STATE, DRAINED}
-use Rattle.unit_rules.proofs.Shared.{firstBad, linesOf, Unit, Whole, inDecoded, inExecuted, isEmpty, allEmpty, cycleOf}
+use Rattle.unit_rules.proofs.Shared.{firstBad, linesOf, IdEx, ExWb, Unit, Whole, inDecoded, inExecuted, isEmpty, allEmpty, cycleOf}
 use Rattle.unit_rules.proofs.Shared.{Cycled, Ran, drainedOf, wellMadeOf, freshOf, loadOf, goOf, cycledOf, goesOn, ranOf, registerOf, askedDrained}
 use Rattle.unit_rules.proofs.Shared.{Call, unitAfter, madeUnless, cyclesIn, renews, unitAfterAll}
 use Rattle.unit_rules.proofs.Shared.IF/ID
@@ -26,6 +26,25 @@ use Rattle.unit_rules.proofs.Calls.{cycle-of-drained, run-of-drained, w
 -- the test holds exactly of what the documents call well made
 pub well-made-exactly : (u : Unit) → (wellMadeOf u ≡ true) ↔ WellMade u
 well-made-exactly u = (well-made-says u, well-made-test u)
+
+-- u with other contents of ID/EX and EX/WB
+abbrev latching : IdEx → ExWb → Unit → Unit
+latching decoded executed u = record {
+  program = u .program;
+  count = u .count;
+  cycle = u .cycle;
+  registers = u .registers;
+  fetched = u .fetched;
+  decoded = decoded;
+  executed = executed;
+  gone = u .gone;
+}
+
+-- The latches "hold instructions", and what stands beside these is free: with other operands in ID/EX, or another value or mark in EX/WB, a record is as well made.
+pub latched-values-free : (u : Unit) (decoded : IdEx) (executed : ExWb)
+    → inDecoded decoded ≡ inDecoded (u .decoded) → inExecuted executed ≡ inExecuted (u .executed) → wellMadeOf (latching decoded executed u) ≡ wellMadeOf u
+unfolding wellMadeOf
+latched-values-free u decoded executed d e = rw (d, e)
 
 -- "A fresh unit .. is drained", and well made; it is loaded and has not gone
 pub fresh-drained : (drainedOf freshOf ≡ true) × (wellMadeOf freshOf ≡ true) × (freshOf .gone ≡ false)

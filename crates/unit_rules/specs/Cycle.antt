@@ -67,6 +67,11 @@ given i o = outcomeOf (i .word) (o .first) (o .second) (o .third)
 abbrev pub worked : Instruction → Operands → ExWb
 worked i o = EX/WB.Holds i (given i o)
 
+-- the mark that a latch holds, 0 where it is empty
+abbrev pub markIn : ExWb → ℕ
+markIn EX/WB.Empty = 0
+markIn (EX/WB.Holds i o) = o .mark
+
 -- "2. EX works with the values latched in ID."
 abbrev pub afterEX : ExWb → IdEx → ExWb
 afterEX wb ID/EX.Empty = EX/WB.Empty

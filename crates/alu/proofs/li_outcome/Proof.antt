@@ -2,4 +2,7 @@
 use Rattle.alu.proofs.li_outcome as this
 
 pub li-outcome-spec : {M : Type 1} → this.Statement.statement M
-li-outcome-spec = this.Tie.close (this.Tie.spec _ _ _ (λ c. rw (c .with-halfword .ensures, c .before .before .index .ensures .0, c .before .immediate .ensures)))
+li-outcome-spec =
+    this.Tie.close
+    (this.Tie.spec _ _ _ _
+    (λ c. rw (c .without-mark .ensures, c .before .with-halfword .ensures, c .before .before .before .index .ensures .0, c .before .before .immediate .ensures)))
