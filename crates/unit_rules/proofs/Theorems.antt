@@ -179,7 +179,7 @@ kept-well-made x u w = well-made-after u w x
 pub reached-well-made : (calls : List Call) → wellMadeOf (unitAfterAll calls freshOf) ≡ true
 reached-well-made calls = kept-made calls freshOf (fresh-drained .1)
 
--- "Only an accepted load or a cycle alters the registers": a go leaves them, and the program; and any call in which no cycle is made leaves the whole unit, but a go and a load that
+-- "Only a start or a cycle alters the registers", and of a start the load: a go leaves them, and the program; and any call in which no cycle is made leaves the whole unit, but a go and a load that
 -- are accepted
 pub go-keeps : (u : Unit) → (goOf u .unit .registers ≡ u .registers) × (goOf u .unit .program ≡ u .program)
 unfolding goOf
