@@ -47,7 +47,7 @@ pub fn multiply_outcome(w: u32, rs1: Register, rs2: Register, rs3: Register) -> 
     multiply(is_long(w), is_subtract(w), is_high(w), rs1, rs2, rs3)
 }
 
-// A word of a short code, its value alone: eight marks take as long to gather as their sums, and a run needs none. None of the sixteen has a third operand.
+// A word of a short code, its value alone: to gather eight marks costs two thirds of their sums, and a run needs none. None of the sixteen has a third operand.
 pub fn short_value(w: u32, rs1: Register, rs2: Register) -> Register
     ensures { λ r. ⌜ r ≡ result (getD shortRows (codeOf w) nop) w rs1 rs2 zeroRegister .value ⌝ }
 {
