@@ -589,6 +589,12 @@ if is_there calls examples/calls.txt; then
     gives 0; out_is 'stop = UNKNOWN\n = UNKNOWN\ngo\r = UNKNOWN\nrun 4294967296 = UNKNOWN\nREFUSED 4 = UNKNOWN\ngo = 0\n'; err_is ''
     end
 
+    begin 'the ones of a word, and of what is no word'
+    printf 'ones F00F0137\nones f00f0137\nones F00F013\n' >"$TRY/script"
+    run ./card calls "$TRY/script"
+    gives 0; out_is 'ones F00F0137 = A00A0126 40040123 04040105 00080006\nones f00f0137 = UNKNOWN\nones F00F013 = UNKNOWN\n'; err_is ''
+    end
+
     begin 'a script that is missing, and one that cannot be read'
     run ./card calls "$TRY/missing"
     gives 2; out_is ''

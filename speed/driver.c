@@ -30,9 +30,9 @@ void peer_registers(const void *, void *);
 
 #define JOBS 256
 #define SIZE 776
-#define SETS 6
+#define SETS 7
 static u8 jobs[SETS][JOBS][SIZE] __attribute__((aligned(16)));
-static const char *sets[] = { "mixed", "multiply", "li", "short", "clamp", "same" };
+static const char *sets[] = { "mixed", "multiply", "li", "short", "clamp", "same", "ones" };
 static u64 seed = 88172645463325252ull;
 static u32 any(u32 below) { seed ^= seed << 13; seed ^= seed >> 7; seed ^= seed << 17; return (u32)(seed >> 20) % below; }
 static u32 pool[6];
@@ -47,6 +47,7 @@ static u32 word(int set) {
   case 2: return li();
   case 3: return sh(1 + any(15));
   case 4: return sh(any(2) ? 4 : 15);
+  case 6: return sh(3);
   }
   k = any(20);
   return k < 5 ? li() : k < 11 ? mul() : k < 19 ? sh(1 + any(15)) : sh(0);

@@ -1,4 +1,5 @@
 pub mod Words
+pub mod Masks
 pub mod Integers
 pub mod Signed
 pub mod Equality

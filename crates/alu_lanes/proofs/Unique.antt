@@ -9,6 +9,8 @@ use Rattle.alu_lanes.proofs.wrapped.subtract_from.Kinds as subtract-fro
 use Rattle.alu_lanes.proofs.wrapped.subtract_from.Reads as subtract-from-reads
 use Rattle.alu_lanes.proofs.counted.ones_in_halfwords.Kinds as ones-in-halfwords-kinds
 use Rattle.alu_lanes.proofs.counted.ones_in_halfwords.Reads as ones-in-halfwords-reads
+use Rattle.alu_lanes.proofs.ones.by_step.Kinds as by-step-kinds
+use Rattle.alu_lanes.proofs.ones.by_step.Reads as by-step-reads
 use Rattle.alu_lanes.proofs.counted.leading_zeros.Kinds as leading-zeros-kinds
 use Rattle.alu_lanes.proofs.counted.leading_zeros.Reads as leading-zeros-reads
 use Rattle.alu_lanes.proofs.moved.shift_halfwords_right.Kinds as shift-halfwords-right-kinds
@@ -45,6 +47,9 @@ subtract-from-unique = by-value (λ κs a. no-requires) (λ κs a v w. refl)
 pub ones-in-halfwords-unique :
     Determined 0 ones-in-halfwords-kinds.ps ones-in-halfwords-kinds.r ones-in-halfwords-reads.requires ones-in-halfwords-reads.Post
 ones-in-halfwords-unique = by-value (λ κs a. no-requires) (λ κs a v w. refl)
+
+pub by-step-unique : Determined 0 by-step-kinds.ps by-step-kinds.r by-step-reads.requires by-step-reads.Post
+by-step-unique = by-value (λ κs a. no-requires) (λ κs a v w. refl)
 
 pub leading-zeros-unique : Determined 0 leading-zeros-kinds.ps leading-zeros-kinds.r leading-zeros-reads.requires leading-zeros-reads.Post
 leading-zeros-unique = by-value (λ κs a. no-requires) (λ κs a v w. refl)

@@ -1,11 +1,10 @@
--- The laws of unsigned numbers, once over the width k: moved bits fit; ones are counted; bits are rotated.
+-- The laws of unsigned numbers, once over the width k: moved bits fit; bits are rotated.
 -- Assumes nothing.
 use Prim.Native.Nat.{ℕ, zero, suc, _+_, _-_, _*_, _/_, _%_, _^_, _<_, _≤_}
 use mathlib.Core.Path.{_≡_, ap, ap₂, _∙_, subst}
 use native.Mathlib.Omega.{arith}
-use native.Mathlib.Nat.{lt-of-le-of-lt, sub-zero, mul-one, pow-zero, pow-suc, div-one, mod-one, mod-self, mod-eq-of-lt, mul-mod-left}
+use native.Mathlib.Nat.{lt-of-le-of-lt, sub-zero, mul-one, pow-zero, div-one, mod-one, mod-self, mod-eq-of-lt, mul-mod-left}
 use lib.Bits.{bitOr, or-self, or-shifted-r}
-use lib.Count.{ones, onesIn, ones-step}
 use lib.Pow.{mod-pow-add, shl-lt, shl-shr, shr-le, shr-lt}
 use Rattle.alu_rules.specs.Width.{rotatedRight}
 
@@ -15,14 +14,6 @@ moved-lt k n {x} h = lt-of-le-of-lt (shr-le x n) h
 
 pub high-fits : (k : ℕ) {hi : ℕ} → hi < 2 ^ k → hi * 2 ^ k < 2 ^ (k + k)
 high-fits k h = shl-lt k k h
-
--- all the ones of a number of k bits are in its k lowest digits
-pub all-ones-in : (k x : ℕ) → x < 2 ^ k → ones x ≡ onesIn k x
-unfolding ones onesIn
-all-ones-in zero x h =
-    let z : x ≡ 0 = omega arith in
-    rw z
-all-ones-in (suc k) x h = ones-step x ∙ ap (λ (n : ℕ). x % 2 + n) (all-ones-in k (x / 2) (omega (arith, pow-suc 2 k)))
 
 -- ---- k bits rotated by two shifts
 

@@ -2,12 +2,13 @@
 
 ghost use mathlib.Core.Path.{_≡_};
 ghost use Rattle.alu_rules.specs.Lane.{CNTIH, CLZW};
+use crate::ones::in_sixteens;
 
 // CNTIH: of both halfwords of a word.
 pub fn ones_in_halfwords(w: u32) -> u32
     ensures { λ r. ⌜ r ≡ CNTIH w ⌝ }
 {
-    u32::count_ones(w / 0x1_0000) * 0x1_0000 + u32::count_ones(w % 0x1_0000)
+    in_sixteens(w)
 }
 
 // CLZW.

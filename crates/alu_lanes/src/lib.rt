@@ -5,6 +5,7 @@ pub mod clamped;
 pub mod counted;
 pub mod moved;
 pub mod multiplied;
+pub mod ones;
 pub mod ordered;
 mod sign;
 pub mod wrapped;

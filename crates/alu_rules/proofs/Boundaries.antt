@@ -1,8 +1,10 @@
--- Marks at their boundaries: the bit of each lane, lanes just beyond a limit and exactly on it, and the instructions that give none. Carried by computing them.
+-- Marks at their boundaries: the bit of each lane, lanes just beyond a limit and exactly on it, and the instructions that give none; and fields that are full of ones. Carried
+-- by computing them.
 -- Assumes nothing.
 use Prim.Native.Nat.{ℕ, _-_, _*_, _/_, _%_, _^_}
 use mathlib.Core.Path.{_≡_, refl}
 use mathlib.Core.List.{[], _∷_, map}
+use lib.Count.{onesIn}
 use Rattle.register.specs.declared.Register.{Register}
 use Rattle.register.specs.Layout.{zeroRegister}
 use Rattle.table.specs.Operation.{Operation}
@@ -10,6 +12,7 @@ use Rattle.table.specs.Operation.Operation.{li, simal, simah, simsl, simsh, slm
 use Rattle.table.specs.Operation.Operation.{nop, shrhi, au, cntih, ahs, or, bcw, maxws, minws, mlhu, mlhcu, and, clzw, rotw, sfwu, sfhs}
 use Rattle.alu_rules.specs.Width.{signed}
 use Rattle.alu_rules.specs.Result.{result}
+use Rattle.alu_rules.specs.Ones.{inFields, onesByStep}
 
 -- the register of these 128 bits
 abbrev ofNumber : ℕ → Register
@@ -92,3 +95,11 @@ pub no-marks : (map (λ (o : Operation). mark o 32 0xFFFFFFFF 1 0)
     ≡ ((0 ∷ 0 ∷ 0 ∷ 0 ∷ 0 ∷ 0 ∷ 0 ∷ 0 ∷ 0 ∷ 0 ∷ 0 ∷ 0 ∷ 0 ∷ 0 ∷ 0 ∷ []) ∷ (0 ∷ 0 ∷ []) ∷ [])
 unfolding result
 no-marks = refl
+
+-- every field full of ones, and then every second one: 2, 4, 8 and 16 to a field, and none to its neighbour
+pub full-fields : (onesByStep 0xFFFFFFFF ∷ onesByStep 0x33333333 ∷ onesByStep 0x0F0F0F0F ∷ onesByStep 0x00FF00FF ∷ onesByStep 0x0000FFFF ∷ [])
+    ≡ ((0xAAAAAAAA ∷ 0x44444444 ∷ 0x08080808 ∷ 0x00100010 ∷ []) ∷ (0x22222222 ∷ 0x22222222 ∷ 0x04040404 ∷ 0x00080008 ∷ [])
+    ∷ (0x0A0A0A0A ∷ 0x04040404 ∷ 0x04040404 ∷ 0x00080008 ∷ []) ∷ (0x00AA00AA ∷ 0x00440044 ∷ 0x00080008 ∷ 0x00080008 ∷ [])
+    ∷ (0x0000AAAA ∷ 0x00004444 ∷ 0x00000808 ∷ 0x00000010 ∷ []) ∷ [])
+unfolding inFields onesIn
+full-fields = refl

@@ -2,6 +2,7 @@ pub mod Boundaries
 pub mod Integers
 pub mod Clamped
 pub mod Bits
+pub mod Ones
 pub mod Across
 pub mod Operations
 pub mod EachLane

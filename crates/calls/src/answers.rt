@@ -1,4 +1,4 @@
-// What is printed behind a line: ` = ` and its answer, whose first number is the refusal.
+// What is printed behind a line: ` = ` and its answer, whose first number is the refusal where a unit is called.
 
 use console::output::print;
 use console::output::write_number;
@@ -6,6 +6,7 @@ use libc::STDOUT_FILENO;
 use register::Register;
 use row::digits;
 use row::values::register_text;
+use row::values::register_word_text;
 
 // A line that is no call.
 pub(crate) fn unknown() {
@@ -48,6 +49,21 @@ fn end_with(value: Register) {
 pub(crate) fn value(refusal: u32, value: Register) {
     begin(refusal);
     end_with(value);
+}
+
+fn word(value: u32) {
+    print(b" ");
+    print(&register_word_text(value));
+}
+
+// Four words, and no refusal: what answers them refuses nothing.
+pub(crate) fn words(values: [u32; 4]) {
+    print(b" =");
+    word(values[0]);
+    word(values[1]);
+    word(values[2]);
+    word(values[3]);
+    print(b"\n");
 }
 
 // The row stands on the next line, and only where there is one.

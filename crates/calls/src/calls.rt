@@ -31,6 +31,9 @@ fn ask_by(u: Unit, line: &[u8], name: &[u8], rest: &[u8]) {
     if same(name, b"register") {
         return ask::register(u, rest);
     }
+    if same(name, b"ones") {
+        return ask::ones(rest);
+    }
     answers::unknown();
 }
 

@@ -14,6 +14,8 @@ use Rattle.row.proofs.digits.units.Kinds as units-kinds
 use Rattle.row.proofs.digits.units.Reads as units-reads
 use Rattle.row.proofs.values.word_text.Kinds as word-text-kinds
 use Rattle.row.proofs.values.word_text.Reads as word-text-reads
+use Rattle.row.proofs.values.register_word_text.Kinds as register-word-text-kinds
+use Rattle.row.proofs.values.register_word_text.Reads as register-word-text-reads
 use Rattle.row.proofs.values.register_text.Kinds as register-text-kinds
 use Rattle.row.proofs.values.register_text.Reads as register-text-reads
 use Rattle.row.proofs.write_row.Kinds as write-row-kinds
@@ -38,6 +40,10 @@ units-unique = by-value (λ κs a. no-requires) (λ κs a v w. refl)
 
 pub word-text-unique : Determined 0 word-text-kinds.ps word-text-kinds.r word-text-reads.requires word-text-reads.Post
 word-text-unique = by-value (λ κs a. no-requires) (λ κs a v w. refl)
+
+pub register-word-text-unique :
+    Determined 0 register-word-text-kinds.ps register-word-text-kinds.r register-word-text-reads.requires register-word-text-reads.Post
+register-word-text-unique = by-value (λ κs a. no-requires) (λ κs a v w. refl)
 
 pub register-text-unique : Determined 0 register-text-kinds.ps register-text-kinds.r register-text-reads.requires register-text-reads.Post
 register-text-unique = by-value (λ κs a. no-requires) (λ κs a v w. refl)

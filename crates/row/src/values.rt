@@ -6,12 +6,21 @@ use crate::digits::put_hex;
 use crate::fields::put_register;
 use register::Register;
 
-// A word in seven hex digits.
+// An instruction's word in seven hex digits.
 pub fn word_text(w: u32) -> [u8; 7]
     ensures { λ r. ⌜ r ≡ hexDigits 7 w ⌝ }
 {
     let mut text = [0u8; 7];
     put_hex(&mut text, 7, w);
+    text
+}
+
+// A word of a register in eight hex digits.
+pub fn register_word_text(w: u32) -> [u8; 8]
+    ensures { λ r. ⌜ r ≡ hexDigits 8 w ⌝ }
+{
+    let mut text = [0u8; 8];
+    put_hex(&mut text, 8, w);
     text
 }
 
