@@ -58,7 +58,7 @@ halves-counted k x = ap₂ _+_ (ones-of-low k x) (ones-of-low k (high k x)) ∙ 
 pub sum-fits : (k x : ℕ) → onesIn k (low k x) + onesIn k (low k (high k x)) < 2 ^ (k + k)
 sum-fits k x = subst (λ (m : ℕ). m < 2 ^ (k + k)) (sym (halves-counted k x)) (no-overflow (k + k) (low (k + k) x))
 
--- "every field holds the number of ones that this field had": the sum of its bits
+-- every field holds the number of ones that it has in the word: the sum of its bits
 pub ones-at-each-field : (d i w : ℕ) → i < 32 / d → onesInFields d w / 2 ^ (d * i) % 2 ^ d ≡ total d (λ (j : ℕ). bit (d * i + j) w)
 ones-at-each-field d i w l =
     at-each-field d (onesIn d) (no-overflow d) (32 / d) i w l ∙ ones-of-low d _ ∙ ones-by-bits d _
