@@ -162,7 +162,7 @@ printf 'a job\n' >"$TRY/job"
 begin 'the verbs are listed'
 run ./card
 gives 0; out_has './card trace [JOB]'; out_has './card traces JOB..'; err_is ''; builds 0
-out_has './card calls [SCRIPT]'; out_has './card assemble [TEXT [REGISTERS]]'; out_has './card texts TEXT..'
+out_has './card calls [SCRIPT]'; out_has './card assemble [--edition N] [TEXT [REGISTERS]]'; out_has './card texts TEXT..'
 end
 
 begin 'an unknown verb'
@@ -177,7 +177,18 @@ end
 
 begin 'too many files beside one on standard input'
 run ./card assemble "$TRY/job" "$TRY/job" "$TRY/job"
-gives 2; out_is ''; err_has 'usage: ./card assemble [TEXT [REGISTERS]]'; builds 0
+gives 2; out_is ''; err_has 'usage: ./card assemble [--edition N] [TEXT [REGISTERS]]'; builds 0
+end
+
+begin 'an edition that there is not, one that is missing, and one for a verb that has none'
+run ./card assemble --edition 3 "$TRY/job"
+gives 2; out_is ''; err_has 'usage: ./card assemble [--edition N]'; builds 0
+run ./card assemble --edition
+gives 2; out_is ''; err_has 'usage: ./card assemble [--edition N]'; builds 0
+run ./card assemble --edition "$TRY/job"
+gives 2; out_is ''; err_has 'usage: ./card assemble [--edition N]'; builds 0
+run ./card trace --edition 2 "$TRY/job"
+gives 2; out_is ''; err_has 'usage: ./card trace [JOB]'; builds 0
 end
 
 begin 'too few files'
@@ -493,6 +504,17 @@ run ./card assemble "$TRY/job"
 gives 0; builds 1; out_is "$(newest)\na job\n"
 end
 
+begin 'an edition in front of the files is handed on, and a file of that name is none'
+run env TRY_READS=1 ./card assemble --edition 2 "$TRY/job" 'a  second'
+gives 0; out_is "$(newest)\nname --edition\nname 2\nname a  second\na job\n"
+run env TRY_READS=1 ./card assemble --edition 1 "$TRY/job"
+gives 0; out_is "$(newest)\nname --edition\nname 1\na job\n"
+cp "$TRY/job" "$repository/--edition"
+run env TRY_READS=1 ./card assemble "$TRY/job" --edition
+gives 0; out_is "$(newest)\nname --edition\nname 1\nname --edition\na job\n"
+rm ./--edition
+end
+
 begin 'bytes on standard output that look like a refusal are none; a refusal on standard error gives 1'
 run env TRY_OUT='REFUSED 4' ./card assemble "$TRY/job"
 gives 0; out_has 'REFUSED 4'; err_is ''
@@ -616,6 +638,20 @@ if is_there assemble examples/sample.text; then
     gives 0; prints "$TRY/expected"; err_is ''
     end
 
+    begin 'a job of the second edition; its register 0 must be zero'
+    run ./card assemble --edition 2 examples/sample.text
+    { head -c 4 examples/sample.job; printf '\014\0\024\0\002\0\0\0'; tail -c +9 examples/sample.job; } >"$TRY/expected"
+    gives 0; prints "$TRY/expected"; err_is ''
+    head -c 32 /dev/zero >"$TRY/zeros"
+    run ./card assemble --edition 2 examples/sample.text "$TRY/zeros"
+    { printf '\002\0\002\0'; tail -c +5 "$TRY/expected"; cat "$TRY/zeros"; } >"$TRY/longer"
+    gives 0; prints "$TRY/longer"; err_is ''
+    run ./card assemble --edition 2 examples/sample.text "$TRY/registers"
+    gives 1; out_is ''; err_is 'REFUSED 15\n'
+    run ./card assemble --edition 1 examples/sample.text
+    gives 0; prints examples/sample.job; err_is ''
+    end
+
     begin 'a text that is refused, and registers that are'
     printf 'nop\nshrhi 1 2 16\n' >"$TRY/refused"
     run ./card assemble "$TRY/refused"
@@ -638,6 +674,20 @@ if is_there assemble examples/sample.text; then
         cp "$TRY/out" "$TRY/two-li.job"
         run ./card trace "$TRY/two-li.job"
         gives 0; prints examples/two-li.trace; err_is ''
+        end
+
+        begin 'a text in both editions: register 0 written, and wired to zero'
+        for edition in 1 2; do
+            run ./card assemble --edition $edition examples/register-0.text
+            gives 0; err_is ''
+            cp "$TRY/out" "$TRY/register-0.job"
+            run ./card trace "$TRY/register-0.job"
+            gives 0; prints examples/register-0-edition-$edition.trace; err_is ''
+            if is_there list examples/sample.job listing; then
+                run ./card list "$TRY/register-0.job"
+                gives 0; prints examples/register-0.text; err_is ''
+            fi
+        done
         end
 
         begin 'a text whose row shows a mark: one lane clamped, one on the limit'

@@ -12,6 +12,7 @@ use lib.Pow.{shr-shr}
 use Rattle.register.specs.declared.Register.{Register}
 use Rattle.register.specs.Layout.{zeroRegister, rowOf, withHalfword}
 use Rattle.table.specs.Fields.{bitsOf, isLi, isMultiply, rs2Of, codeOf, constantOf, firstOf}
+use Rattle.table.specs.declared.Edition.{Edition}
 use Rattle.table.specs.Operation.{Operation, operationOf, shortRows, targetOf}
 use Rattle.table.specs.Operation.Operation.{nop, bcw}
 use Rattle.alu_rules.specs.declared.Outcome.{Outcome}
@@ -50,9 +51,9 @@ module _ (w v : ℕ) (w-no-li : isLi w ≡ false) (w-short : isMultiply w ≡ fa
       let rs2 : bitsOf 14 10 w ≡ bitsOf 14 10 v = omega (arith, alike) in
       (rw (w-no-li, v-no-li) (λ i. record { 0 = rs1 i }), λ i. record { 0 = rs2 i })
 
-  pub same-target : targetOf w ≡ targetOf v
+  pub same-target : (edition : Edition) → targetOf edition w ≡ targetOf edition v
   unfolding targetOf
-  same-target =
+  same-target edition =
       let rd : bitsOf 4 0 w ≡ bitsOf 4 0 v = omega (arith, alike) in
       rw (w-no-li, w-short, v-no-li, v-short, same-code, rd)
 

@@ -15,7 +15,7 @@ pub(crate) const MOST: usize = 800;
 pub(crate) const LARGEST_START: usize = 0xFFFF_FFFF_FFFF_FFFF;
 
 // The words of the longest form, and one more, so that a word too many shows.
-const WORDS: usize = 13;
+const WORDS: usize = 14;
 
 // The words of a program that a case can name.
 const NAMED: usize = 4;
@@ -140,7 +140,7 @@ pub(crate) fn register(line: &[u8], i: usize) -> [u32; 4] {
 
 // The words from that one on, at the front of a program.
 pub(crate) fn put_words(line: &[u8], from: usize, program: &mut [u32])
-    requires { ⌜ from ≤ 8 ⌝ }
+    requires { ⌜ from ≤ 9 ⌝ }
 {
     let mut i = 0;
     while i < NAMED && i < program.len() {

@@ -1,5 +1,6 @@
 // What an answer is made of, each part behind a space: numbers, registers, marks, units, and what became of a buffer.
 
+ghost use Prim.Native.Nat.{_≤_};
 use crate::case::MOST;
 use console::output::print;
 use console::output::write_number;
@@ -8,6 +9,7 @@ use register::Register;
 use row::digits::hex;
 use row::values::register_text;
 use row::values::word_text;
+use table::Edition;
 use unit_record::latches::in_decoded;
 use unit_record::latches::in_executed;
 use unit_rules::IfId;
@@ -68,10 +70,20 @@ fn byte(b: u8) {
     number(b as usize);
 }
 
-// The bytes where a header stands.
-pub(crate) fn front(buffer: &[u8; MOST]) {
+// 1 or 2.
+pub(crate) fn edition_number(edition: Edition) {
+    match edition {
+        Edition::One => number(1),
+        Edition::Two => number(2),
+    }
+}
+
+// So many of the bytes where a header stands.
+pub(crate) fn front(buffer: &[u8; MOST], count: usize)
+    requires { ⌜ count ≤ 12 ⌝ }
+{
     let mut i = 0;
-    while i < 8 {
+    while i < count {
         byte(buffer[i]);
         i += 1;
     }

@@ -12,6 +12,7 @@ use job_rules::Program;
 use register::Register;
 use script::Number;
 use table::Count;
+use table::Edition;
 use unit_record::latches::instruction;
 use unit_record::well_made;
 use unit_rules::ExWb;
@@ -25,14 +26,14 @@ const LARGEST_NUMBER: usize = 0xFFFF_FFFF_FFFF_FFFF;
 // A job without lines and registers, which a load of a drained unit accepts.
 const NO_LINES: [u8; 8] = [0, 0, 0, 0, 8, 0, 8, 0];
 
-fn fetched(word: Number) -> IfId {
+fn fetched(edition: Edition, word: Number) -> IfId {
     if word.known {
-        return IfId::Holds(instruction(word.value));
+        return IfId::Holds(instruction(edition, word.value));
     }
     IfId::Empty
 }
 
-fn decoded(word: Number) -> IdEx {
+fn decoded(edition: Edition, word: Number) -> IdEx {
     let zero = Register::ZERO;
     if word.known {
         let operands = Operands {
@@ -40,49 +41,59 @@ fn decoded(word: Number) -> IdEx {
             second: zero,
             third: zero,
         };
-        return IdEx::Holds(instruction(word.value), operands);
+        return IdEx::Holds(instruction(edition, word.value), operands);
     }
     IdEx::Empty
 }
 
-fn executed(word: Number) -> ExWb {
+fn executed(edition: Edition, word: Number) -> ExWb {
     if word.known {
         let outcome = Outcome {
             value: Register::ZERO,
             mark: 0xFF,
         };
-        return ExWb::Holds(instruction(word.value), outcome);
+        return ExWb::Holds(instruction(edition, word.value), outcome);
     }
     ExWb::Empty
 }
 
-fn program_of(line: &[u8]) -> Program {
+fn program_of(edition: Edition, line: &[u8], from: usize) -> Program
+    requires { ⌜ from ≤ 1 ⌝ }
+{
     let mut words = [0u32; 64];
-    case::put_words(line, 8, &mut words);
+    case::put_words(line, from + 8, &mut words);
     Program {
         words,
-        n: Count(case::byte(line, 1)),
+        n: Count(case::byte(line, from + 1)),
+        edition,
     }
 }
 
-// Its registers are all ones, so that the zeros of a refusal show; the values in its latches are zeros, and the mark is FF, which zeros never have: a latched mark is
-// free.
-fn record_of(line: &[u8]) -> Unit {
-    let ones = Register {
+fn ones() -> Register {
+    Register {
         w0: 0xFFFF_FFFF,
         w1: 0xFFFF_FFFF,
         w2: 0xFFFF_FFFF,
         w3: 0xFFFF_FFFF,
-    };
+    }
+}
+
+// From that word of the line on. Its registers are all ones but for register 0, so that the zeros of a refusal show; the values in its latches are zeros, and the mark is
+// FF, which zeros never have: a latched mark is free.
+fn record_from(edition: Edition, first: Register, line: &[u8], from: usize) -> Unit
+    requires { ⌜ from ≤ 1 ⌝ }
+{
+    let mut registers = [ones(); 32];
+    registers[0] = first;
     Unit {
-        program: program_of(line),
-        count: Count(case::byte(line, 2)),
-        cycle: case::size(line, 3) as u32,
-        registers: [ones; 32],
-        fetched: fetched(case::code(line, 5)),
-        decoded: decoded(case::code(line, 6)),
-        executed: executed(case::code(line, 7)),
-        gone: case::byte(line, 4) != 0,
+        program: program_of(edition, line, from),
+        count: Count(case::byte(line, from + 2)),
+        cycle: case::size(line, from + 3) as u32,
+        registers: registers,
+        fetched: fetched(edition, case::code(line, from + 5)),
+        decoded: decoded(edition, case::code(line, from + 6)),
+        executed: executed(edition, case::code(line, from + 7)),
+        gone: case::byte(line, from + 4) != 0,
     }
 }
 
@@ -143,13 +154,12 @@ fn print_cycle_row(u: Unit, room: usize, start: usize)
 }
 
 pub(crate) fn answer_cycle(line: &[u8]) {
-    let u = record_of(b"record 1 0 0 1");
+    let u = record_from(Edition::One, ones(), b"record 1 0 0 1", 0);
     print_cycle_row(u, case::size(line, 1), case::start(line, 2));
 }
 
 // Every call, each on the record as it is given.
-pub(crate) fn answer_record(line: &[u8]) {
-    let u = record_of(line);
+fn print_calls(u: Unit) {
     print::number(well_made(u) as usize);
     print_load(u);
     print_go(u);
@@ -161,4 +171,13 @@ pub(crate) fn answer_record(line: &[u8]) {
     print_register(u, 32);
     print_register(u, LARGEST_NUMBER);
     print_drained(u);
+}
+
+pub(crate) fn answer_record(line: &[u8]) {
+    print_calls(record_from(Edition::One, ones(), line, 0));
+}
+
+pub(crate) fn answer_record_of_edition_2(line: &[u8]) {
+    let first = Register::from_row(case::register(line, 1));
+    print_calls(record_from(Edition::Two, first, line, 1));
 }

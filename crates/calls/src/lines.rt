@@ -67,10 +67,10 @@ fn take_piece(before: Progress, line: &mut [u8], piece: &[u8]) -> Progress
         kept = take_part(line, kept, &piece[at..end]);
         at = end;
         if end < piece.len() {
+            at = end + 1;
             let after = end_line(u, &line[..kept]);
             u = after;
             kept = 0;
-            at = end + 1;
         }
     }
     Progress { unit: u, kept }

@@ -4,8 +4,8 @@
 use Rattle.job_rules.proofs.Shared.{ℕ, zero, suc, _+_, _-_, _*_, _≤_, _<_, _≡_, refl, sym, ap, _∙_, List, [], _∷_, _++_, flatMap, append-assoc}
 use Rattle.job_rules.proofs.Shared.{append-nil, add-assoc, add-zero, arith, length, getD, take, drop, set, replicate, length-append}
 use Rattle.job_rules.proofs.Shared.{length-drop, drop-of-length-le, take-append-drop, take-at, set-at, append-snoc, drop-drop, getD-drop}
-use Rattle.job_rules.proofs.Shared.{take-suc, length-take-le, getD-take, atFront, Register, wordAt, ofBytes, Bytes, instructionsAt, fourBytes}
-use Rattle.job_rules.proofs.Shared.{headerBytes, registerCount, encode, pieces, filled}
+use Rattle.job_rules.proofs.Shared.{take-suc, length-take-le, getD-take, atFront, Register, zeroRegister, wordAt, ofBytes, Bytes, Edition}
+use Rattle.job_rules.proofs.Shared.{One, Two, instructionsAt, registersAt, fourBytes, headerBytes, registerCount, encode, pieces, registersOf, filled}
 use native.Mathlib.Numerals.{add-one, unary-clauses}
 use borrow.Rule.Slice.PartMut.{midOf, putMid}
 use Rattle.buffer.proofs.Parts.{then-front}
@@ -140,26 +140,55 @@ register-there l e f = f ∙ ap ofBytes e ∙ same (word 0 (omega arith)) (word 
     word : (i : ℕ) → i + 3 < 16 → wordAt (take 16 l) i ≡ wordAt l i
     word i h = rw (byte i (omega arith), byte (i + 1) (omega arith), byte (i + 2) (omega arith), byte (i + 3) (omega arith))
 
+-- register 0 of register bytes: zero where they are too few for one, and else made of the first 16, which a buffer of 16 takes
+module _ (l : List ℕ) {v : Register} where
+  pub no-register : length l < 16 → v ≡ zeroRegister → v ≡ getD (registersOf (registerCount l) l) 0 zeroRegister
+  no-register h e = let none : registerCount l ≡ 0 = omega arith in rw none e
+
+  pub first-register : {b : List ℕ} → 16 ≤ length l → b ≡ atFront (take 16 l) (replicate 16 0) → v ≡ ofBytes b
+      → v ≡ getD (registersOf (registerCount l) l) 0 zeroRegister
+  first-register h e f =
+      let some : registerCount l ≡ suc (registerCount l - 1) = omega arith in
+      let sixteen : atFront (take 16 l) (replicate 16 0) ≡ take 16 l = rw (length-take-le 16 l h) (append-nil (take 16 l)) in
+      rw some (register-there l (e ∙ sixteen) f)
+
 -- ---- a whole job
 
-pub four-bytes : (w : ℕ) → length (fourBytes w) ≡ 4
+four-bytes : (w : ℕ) → length (fourBytes w) ≡ 4
 four-bytes w = refl
 
-pub job-size : (words bytes : List ℕ) → length (encode instructionsAt words bytes) ≡ 8 + 4 * length words + length bytes
-unfolding encode
-job-size words bytes =
-    omega (arith, length-append (flatMap fourBytes words) bytes, pieces-size fourBytes 4 four-bytes words)
+-- where the instructions stand: behind the four numbers, and so near that two bytes say it
+pub offset-bounds : (edition : Edition) → (8 ≤ instructionsAt edition) × (instructionsAt edition ≤ 12)
+offset-bounds One = (omega arith, omega arith)
+offset-bounds Two = (omega arith, omega arith)
 
--- header, words and register bytes, each at the front of the part behind the one before
-pub job-put : (words bytes old x y z : List ℕ)
-    → x ≡ atFront (headerBytes instructionsAt (length words) (registerCount bytes)) old
-    → y ≡ atFront (flatMap fourBytes words) (midOf 8 (length x - 8) x)
-    → z ≡ atFront bytes (midOf (8 + 4 * length words) (length (putMid 8 (length x - 8) x y) - (8 + 4 * length words)) (putMid 8 (length x - 8) x y))
-    → putMid (8 + 4 * length words) (length (putMid 8 (length x - 8) x y) - (8 + 4 * length words)) (putMid 8 (length x - 8) x y) z
-    ≡ atFront (encode instructionsAt words bytes) old
-unfolding encode
-job-put words bytes old x y z e f g =
-    let header = headerBytes instructionsAt (length words) (registerCount bytes) in
-    then-front (8 + 4 * length words) (header ++ flatMap fourBytes words) bytes old _ z
-    (omega (arith, pieces-size fourBytes 4 four-bytes words, length-append header (flatMap fourBytes words)))
-    (then-front 8 header (flatMap fourBytes words) old x y refl e f) g
+-- the header fills what stands before them
+pub header-size : (edition : Edition) (n r : ℕ) → length (headerBytes edition n r) ≡ instructionsAt edition
+header-size One n r = refl
+header-size Two n r = refl
+
+module _ (edition : Edition) (words bytes : List ℕ) where
+  abbrev header : List ℕ
+  header = headerBytes edition (length words) (registerCount bytes)
+
+  pub header-and-words : length (header ++ flatMap fourBytes words) ≡ registersAt edition (length words)
+  header-and-words =
+      let size = header-size edition (length words) (registerCount bytes) in
+      omega (arith, length-append header (flatMap fourBytes words), pieces-size fourBytes 4 four-bytes words)
+
+  pub job-size : length (encode edition words bytes) ≡ instructionsAt edition + 4 * length words + length bytes
+  unfolding encode
+  job-size = omega (arith, length-append (header ++ flatMap fourBytes words) bytes, header-and-words)
+
+  -- header, words and register bytes, each at the front of the part behind the one before
+  pub job-put : (at : ℕ) (old x y z : List ℕ) → at ≡ instructionsAt edition
+      → x ≡ atFront header old
+      → y ≡ atFront (flatMap fourBytes words) (midOf at (length x - at) x)
+      → z ≡ atFront bytes (midOf (at + 4 * length words) (length (putMid at (length x - at) x y) - (at + 4 * length words)) (putMid at (length x - at) x y))
+      → putMid (at + 4 * length words) (length (putMid at (length x - at) x y) - (at + 4 * length words)) (putMid at (length x - at) x y) z
+      ≡ atFront (encode edition words bytes) old
+  unfolding encode
+  job-put at old x y z there e f g =
+      let size = header-size edition (length words) (registerCount bytes) in
+      then-front (at + 4 * length words) (header ++ flatMap fourBytes words) bytes old _ z (omega (arith, header-and-words))
+      (then-front at header (flatMap fourBytes words) old x y (omega arith) e f) g

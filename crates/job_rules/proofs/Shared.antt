@@ -4,7 +4,7 @@ pub use Prim.Native.Nat.{ℕ, zero, suc, _+_, _-_, _*_, _≤_, _<_, _%_, _/_, _^
 pub use mathlib.Core.Path.{_≡_, refl, sym, ap, _∙_, subst}
 pub use mathlib.Core.List.{List, [], _∷_, _++_, append-assoc, append-nil}
 unfoldable pub use mathlib.Core.List.{flatMap}
-pub use mathlib.Core.Bool.{Bool, true, false, cond, not, _||_}
+pub use mathlib.Core.Bool.{Bool, true, false, cond, not, _||_, _&&_}
 pub use native.Mathlib.Nat.{add-assoc, add-zero, le-refl, le-of-suc-le-suc, not-suc-le-zero}
 pub use native.Mathlib.Omega.{arith}
 pub use borrow.Author.Tests.{eq-eqb, ne-eqb, ltb-false, eqb-true, not-false, ltb-true}
@@ -14,13 +14,16 @@ pub use lib.Dec.{ltb, eqb}
 pub use Rattle.buffer.specs.Front.{atFront}
 pub use Rattle.register.specs.declared.Register.{Register}
 pub use Rattle.register.specs.Layout.{wordAt, ofBytes, zeroRegister, bytesOf}
-pub use Rattle.table.specs.Refusal.{COUNT, REGS, PLACE, WORD}
+pub use Rattle.table.specs.declared.Edition.{Edition}
+pub use Rattle.table.specs.declared.Edition.the-variants.{One, Two}
+pub use Rattle.table.specs.Refusal.{COUNT, REGS, PLACE, LENGTH, WORD, EDITION, NONZERO}
 unfoldable pub use Rattle.table.specs.Refusal.{firstBad}
-pub use Rattle.job_rules.specs.Program.{linesOf}
+pub use Rattle.job_rules.specs.Program.{linesOf, mayHold}
 pub use Rattle.job_rules.specs.Layout.{Bytes, instructionsAt, fourBytes, headerBytes, registerCount, pieces, registersAt, sizeOf, twoAt}
+pub use Rattle.job_rules.specs.Layout.{editionBytes, editionIn, saysEdition}
 pub use Rattle.job_rules.specs.Layout.{wordsIn, registersOf, twoBytes, LARGEST}
 unfoldable pub use Rattle.job_rules.specs.Layout.{encode}
-pub use Rattle.job_rules.specs.Read.{filled, jobOf, acceptedOf, refusedOf, numberOf, answerFor, readOf}
+pub use Rattle.job_rules.specs.Read.{filled, jobOf, acceptedOf, refusedOf, numberOf, answerFor, readAs, readOf}
 unfoldable pub use Rattle.job_rules.specs.Read.{testedOf, headerOf, bodyOf}
 pub use Rattle.job_rules.specs.declared.Header.the-variants.{Counts, Refused}
 pub use Rattle.job_rules.specs.declared.Job.{Job}

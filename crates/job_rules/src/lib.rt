@@ -2,14 +2,13 @@
 
 use register::Register;
 use table::Count;
+use table::Edition;
 
-// Where a file's instruction words begin.
-pub const INSTRUCTIONS_AT: usize = 8;
-
-// A program: its n lines in front of 64 words.
+// A program: its n lines in front of 64 words, and the edition of the card that it is for.
 pub struct Program {
     pub words: [u32; 64],
     pub n: Count,
+    pub edition: Edition,
 }
 
 // A job: a program and the first r registers. Zero beyond the n lines and the r registers.
@@ -19,7 +18,8 @@ pub struct Job {
     pub r: usize,
 }
 
-// What reading a file answers: 0 and the job, or the number that it is refused with, with 6 the place of the first bad word, and a job of zeros.
+// What reading a file answers: 0 and the job, or the number that it is refused with, with 6 the place of the first bad word, and a job of zeros and of the first
+// edition.
 pub struct ReadJob {
     pub refusal: u32,
     pub place: usize,
@@ -33,10 +33,10 @@ pub struct Written {
     pub size: usize,
 }
 
-// What a file's first eight bytes and its size say.
+// What a file's first bytes and its size say.
 pub enum Header {
-    // how many words and how many registers follow
-    Counts(Count, usize),
+    // of which edition it is, and how many words and how many registers follow
+    Counts(Edition, Count, usize),
     // the number that the file is refused with
     Refused(u32),
 }

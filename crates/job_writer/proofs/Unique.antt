@@ -23,7 +23,7 @@ write-job-unique = record {
   asks-nothing = λ κs a. no-requires;
   one-answer = λ κs a x y v w p q.
       let same = p ∙ sym q in
-      (ap (λ (z : Written × List ℕ). z .0) same, λ i. (v .0, (v .1 .0, (ap (λ (z : Written × List ℕ). z .1) same i, v .1 .1 .1))));
+      (ap (λ (z : Written × List ℕ). z .0) same, λ i. (v .0, (v .1 .0, (v .1 .1 .0, (ap (λ (z : Written × List ℕ). z .1) same i, v .1 .1 .1 .1)))));
 }
 
 pub register-bytes-unique : Determined 0 register-bytes-kinds.ps register-bytes-kinds.r register-bytes-reads.requires register-bytes-reads.Post

@@ -3,9 +3,10 @@
 ghost use Prim.Native.Nat.{_≤_};
 ghost use mathlib.Core.Path.{_≡_};
 ghost use mathlib.Core.List.{flatMap};
-ghost use lib.ListN.{length};
+ghost use lib.ListN.{length, getD};
 ghost use Rattle.buffer.specs.Front.{atFront};
-ghost use Rattle.register.specs.Layout.{bytesOf};
+ghost use Rattle.register.specs.Layout.{zeroRegister, bytesOf};
+ghost use Rattle.job_rules.specs.Layout.{registerCount, registersOf};
 use buffer::put_front;
 use register::Register;
 
@@ -30,4 +31,16 @@ pub fn register_bytes(registers: [Register; 32]) -> [u8; 512]
     let mut bytes = [0u8; 512];
     put_registers(&mut bytes, registers);
     bytes
+}
+
+// Register 0 of the bytes that the writer takes, zero where they have none.
+pub(crate) fn first_register(registers: &[u8]) -> Register
+    ensures { λ v. ⌜ v ≡ getD (registersOf (registerCount (now (registers .entry))) (now (registers .entry))) 0 zeroRegister ⌝ }
+{
+    if registers.len() < 16 {
+        return Register::ZERO;
+    }
+    let mut bytes = [0u8; 16];
+    put_front(&mut bytes, registers);
+    Register::from_bytes(bytes)
 }

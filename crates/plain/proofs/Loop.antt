@@ -1,21 +1,24 @@
 -- The loop over lines: what the code leaves of a word of each kind is what the plain machine leaves, registers and marks. Carried by `one-more` and `one-more-mark`.
 -- Assumes nothing.
 use Prim.Native.Nat.{ℕ, zero, suc, _+_, _<_, _≤_}
-use mathlib.Core.Path.{_≡_, refl, sym, ap, _∙_}
-use mathlib.Core.Bool.{Bool, true, false, cond, not}
+use mathlib.Core.Path.{_≡_, refl, sym, ap, subst, _∙_}
+use mathlib.Core.Bool.{Bool, true, false, cond, not, _||_}
 use mathlib.Core.List.{List, [], _∷_}
 use native.Mathlib.Numerals.{add-one}
 use native.Mathlib.Omega.{arith}
-use borrow.Author.Tests.{not-true, not-false, ltb-false}
+use borrow.Author.Tests.{not-false, ltb-false, eq-eqb, ne-eqb}
 use lib.Dec.{ltb}
 use lib.ListN.{getD, set, take, length}
 use lib.Seq.{take-all}
 use Rattle.register.specs.declared.Register.{Register}
 use Rattle.register.specs.Layout.{zeroRegister, withHalfword}
+use Rattle.table.specs.declared.Edition.{Edition}
+use Rattle.table.specs.declared.Edition.the-variants.{One, Two}
 use Rattle.table.specs.declared.Pointer.{Pointer}
 use Rattle.table.specs.Fields.{isLi, isMultiply, isLong, isSubtract, isHigh, indexOf, immediateOf, codeOf, firstOf, rs1Of, rs2Of, rs3Of, rdOf}
-use Rattle.table.specs.Operation.{shortRows, isNop, targetOf}
+use Rattle.table.specs.Operation.{shortRows, isNop, isWired, targetOf}
 use Rattle.table.specs.Operation.Operation.{nop}
+use Rattle.table.proofs.Decided.{the-first, the-second}
 use Rattle.alu_rules.specs.declared.Outcome.{Outcome}
 use Rattle.alu_rules.specs.Across.{unmarked, multiplied}
 use Rattle.alu_rules.specs.Result.{result, outcomeOf}
@@ -28,14 +31,37 @@ use Rattle.plain_rules.proofs.Marks.{as-many, one-more-mark}
 abbrev given : ℕ → List Register → Outcome
 given = outcomeOn (λ r. r) (λ r. r) zeroRegister
 
--- a word that is no NOP stores what it gives, and a NOP leaves all as it is
-stores : (w : ℕ) (f : List Register) {v : Register} → isNop w ≡ false → v ≡ given w f .value → set f (rdOf w .0) v ≡ step w f
+-- a word that writes stores what it gives, and any other leaves all as it is
+stores : (edition : Edition) (w : ℕ) (f : List Register) {v : Register} → isNop w ≡ false → isWired edition (rdOf w) ≡ false → v ≡ given w f .value
+    → set f (rdOf w .0) v ≡ step edition w f
 unfolding stepOn targetOf
-stores w f writes e = rw (writes, e)
+stores edition w f writes free e = rw (writes, free, e)
 
-skips : (w : ℕ) (f : List Register) → isNop w ≡ true → f ≡ step w f
+skips : (edition : Edition) (w : ℕ) (f : List Register) → (isNop w || isWired edition (rdOf w)) ≡ true → f ≡ step edition w f
 unfolding stepOn targetOf
-skips w f nothing = rw nothing
+skips edition w f nothing = rw nothing
+
+-- ---- whether a register takes a write, by what is asked of register 0
+
+-- the edition, by whether register 0 is free to be written
+abbrev pub editionBy : Bool → Edition
+editionBy free = cond free One Two
+
+pub its-edition : (edition : Edition) {r : Bool} → r ≡ isWired edition (record { 0 = 0 }) → editionBy (not r) ≡ edition
+its-edition One e = rw e
+its-edition Two e = rw e
+
+-- a register other than 0 takes it, and 0 where it is free
+other-taken : (edition : Edition) (d : Pointer) → (d .0 ≡ 0 → ⊥) → isWired edition d ≡ false
+other-taken One d h = refl
+other-taken Two d h = ne-eqb (d .0) 0 h
+
+module _ (free : Bool) (d : Pointer) where
+  zero-taken : free ≡ true → isWired (editionBy free) d ≡ false
+  zero-taken e = rw e
+
+  zero-not-taken : d .0 ≡ 0 → free ≡ false → isWired (editionBy free) d ≡ true
+  zero-not-taken h e = rw e (eq-eqb (d .0) 0 h)
 
 -- nothing is stored where a list has no place
 pub set-beyond : {A : Type 0} (l : List A) (i : ℕ) (x : A) → length l ≤ i → l ≡ set l i x
@@ -49,32 +75,76 @@ asked-mark m i x y true e f = ap (set m i) f
 asked-mark m i x y false e f = sym (set-beyond m i x (ltb-false i (length m) (sym e))) ∙ set-beyond m i y (ltb-false i (length m) (sym e))
 
 -- the registers g and the marks n after the first i lines of p, begun on the registers f and laid over the marks m
-pub record Done (p : List ℕ) (i : ℕ) (f : List Register) (m : List ℕ) (g : List Register) (n : List ℕ) : Type 0 where
-  pub registers-left : g ≡ plain (take i p) f
-  pub marks-laid : n ≡ marks (take i p) f m
+pub record Done (edition : Edition) (p : List ℕ) (i : ℕ) (f : List Register) (m : List ℕ) (g : List Register) (n : List ℕ) : Type 0 where
+  pub registers-left : g ≡ plain edition (take i p) f
+  pub marks-laid : n ≡ marks edition (take i p) f m
 
--- line i of p. The code reads the pointers d, a, b and c off its word w; l, k and t are what its tests answer, o is the outcome, and s has its mark
-module _ (p : List ℕ) (i : ℕ) (f : List Register) (m : List ℕ) {g : List Register} {n : List ℕ} (here : i < length p) (so-far : Done p i f m g n) where
+-- line i of p, up to its store. The code reads the pointer d off its word, has its outcome o, and s has its mark
+pub record Given (edition : Edition) (p : List ℕ) (i : ℕ) (f : List Register) (m : List ℕ) (g : List Register) (n : List ℕ) (d : Pointer) (o : Outcome) (s : List ℕ) : Type 0 where
+  pub here : i < length p
+  pub so-far : Done edition p i f m g n
+  pub at : d ≡ rdOf (getD p i 0)
+  pub its-value : o .value ≡ given (getD p i 0) g .value
+  pub its-mark : s ≡ set n i (given (getD p i 0) g .mark)
+
+module _ {edition : Edition} {p : List ℕ} {i : ℕ} {f : List Register} {m : List ℕ} {g : List Register} {n : List ℕ} {d : Pointer} {o : Outcome} {s : List ℕ}
+    (line : Given edition p i f m g n d o s) where
+  after : {h : List Register} → h ≡ step edition (getD p i 0) g → Done edition p (i + 1) f m h s
+  after e = record {
+    registers-left = e
+        ∙ ap (step edition (getD p i 0)) (line .so-far .registers-left)
+        ∙ sym (one-more edition p i f (line .here))
+        ∙ ap (λ (k : ℕ). plain edition (take k p) f) (sym (add-one i));
+    marks-laid = line .its-mark
+        ∙ (λ j. set (line .so-far .marks-laid j) i (given (getD p i 0) (line .so-far .registers-left j) .mark))
+        ∙ sym (one-more-mark (λ r. r) (λ r. r) zeroRegister edition p i f m (line .here))
+        ∙ ap (λ (k : ℕ). marks edition (take k p) f m) (sym (add-one i));
+  }
+
+  stored : isNop (getD p i 0) ≡ false → isWired edition d ≡ false → Done edition p (i + 1) f m (set g (d .0) (o .value)) s
+  stored writes unwired =
+      after (ap (λ (q : Pointer). set g (q .0) (o .value)) (line .at)
+      ∙ stores edition (getD p i 0) g writes (sym (ap (isWired edition) (line .at)) ∙ unwired) (line .its-value))
+
+  pub stored-elsewhere : isNop (getD p i 0) ≡ false → (d .0 ≡ 0 → ⊥) → Done edition p (i + 1) f m (set g (d .0) (o .value)) s
+  stored-elsewhere writes h = stored writes (other-taken edition d h)
+
+  dropped : isWired edition d ≡ true → Done edition p (i + 1) f m g s
+  dropped wired = after (skips edition (getD p i 0) g (the-second (isNop (getD p i 0)) (sym (ap (isWired edition) (line .at)) ∙ wired)))
+
+  pub nothing-written : {t : Bool} → t ≡ isNop (getD p i 0) → not t ≡ false → Done edition p (i + 1) f m g s
+  nothing-written {t} is-nop nothing = after (skips edition (getD p i 0) g (the-first (isWired edition (rdOf (getD p i 0))) (sym is-nop ∙ not-false t nothing)))
+
+-- and where its register is 0, by whether that is free
+module _ (free : Bool) {p : List ℕ} {i : ℕ} {f : List Register} {m : List ℕ} {g : List Register} {n : List ℕ} {d : Pointer} {o : Outcome} {s : List ℕ}
+    (line : Given (editionBy free) p i f m g n d o s) where
+  pub stored-in-0 : isNop (getD p i 0) ≡ false → d .0 ≡ 0 → free ≡ true → Done (editionBy free) p (i + 1) f m (set g 0 (o .value)) s
+  stored-in-0 writes h e = subst (λ (j : ℕ). Done (editionBy free) p (i + 1) f m (set g j (o .value)) s) h (stored line writes (zero-taken free d e))
+
+  pub not-stored : d .0 ≡ 0 → free ≡ false → Done (editionBy free) p (i + 1) f m g s
+  not-stored h e = dropped line (zero-not-taken free d h e)
+
+-- each kind of word: l, k and t are what the code's tests answer, and a, b and c the other pointers
+module _ (edition : Edition) (p : List ℕ) (i : ℕ) (f : List Register) (m : List ℕ) {g : List Register} {n : List ℕ} (here : i < length p) (so-far : Done edition p i f m g n) where
   abbrev w : ℕ
   w = getD p i 0
 
-  after : {h : List Register} {s : List ℕ} → h ≡ step w g → s ≡ set n i (given w g .mark) → Done p (i + 1) f m h s
-  after e laid = record {
-    registers-left = e ∙ ap (step w) (so-far .registers-left) ∙ sym (one-more p i f here) ∙ ap (λ (k : ℕ). plain (take k p) f) (sym (add-one i));
-    marks-laid = laid
-        ∙ (λ j. set (so-far .marks-laid j) i (given w (so-far .registers-left j) .mark))
-        ∙ sym (one-more-mark (λ r. r) (λ r. r) zeroRegister p i f m here)
-        ∙ ap (λ (k : ℕ). marks (take k p) f m) (sym (add-one i));
-  }
-
   module _ {d : Pointer} (at : d ≡ rdOf w) {l : Bool} (is-li : l ≡ isLi w) where
-    pub li-line : l ≡ true → {o : Outcome} → o ≡ unmarked (withHalfword (indexOf w) (immediateOf w) (getD g (d .0) zeroRegister))
-        → {s : List ℕ} → s ≡ set n i 0 → Done p (i + 1) f m (set g (d .0) (o .value)) s
+    pub li-given : l ≡ true → {o : Outcome} → o ≡ unmarked (withHalfword (indexOf w) (immediateOf w) (getD g (d .0) zeroRegister))
+        → {s : List ℕ} → s ≡ set n i 0 → Given edition p i f m g n d o s × (isNop w ≡ false)
     unfolding firstOf
-    li-line li {o} e laid =
+    li-given li {o} e laid =
         let own : firstOf w ≡ rdOf w = rw (← is-li, li) in
-        let gives : o ≡ given w g = li-result w is-li li _ _ _ (e ∙ rw (at, own)) in
-        after (rw at (stores w g (rw (← is-li, li)) (ap (λ (x : Outcome). x .value) gives))) (laid ∙ ap (λ (x : Outcome). set n i (x .mark)) (sym e ∙ gives))
+        let gives : o ≡ given w g = li-result w is-li li _ _ _ (e ∙ rw (at, own)) in (
+          record {
+            here = here;
+            so-far = so-far;
+            at = at;
+            its-value = ap (λ (x : Outcome). x .value) gives;
+            its-mark = laid ∙ ap (λ (x : Outcome). set n i (x .mark)) (sym e ∙ gives);
+          },
+          rw (← is-li, li),
+        )
 
     module _ (other : l ≡ false) {a b : Pointer} (first : a ≡ rs1Of w) (second : b ≡ rs2Of w) {k : Bool} (is-multiply : k ≡ isMultiply w) where
       -- the operands that the code reads are the ones that the word names
@@ -83,53 +153,58 @@ module _ (p : List ℕ) (i : ℕ) (f : List Register) (m : List ℕ) {g : List R
       unfolding firstOf
       named r = rw (← is-li, other, first, second)
 
-      pub multiply-line : k ≡ true → {c : Pointer} → c ≡ rs3Of w → {o : Outcome}
+      pub multiply-given : k ≡ true → {c : Pointer} → c ≡ rs3Of w → {o : Outcome}
           → o ≡ multiplied (isLong w) (isSubtract w) (isHigh w) (getD g (a .0) zeroRegister) (getD g (b .0) zeroRegister) (getD g (c .0) zeroRegister)
-          → {s : List ℕ} → s ≡ set n i (o .mark) → Done p (i + 1) f m (set g (d .0) (o .value)) s
-      multiply-line multiplies third {o} e laid =
-          let gives : o ≡ given w g = multiply-result w is-li other is-multiply multiplies _ _ _ e ∙ named _ ∙ rw third in
-          after (rw at (stores w g (rw (← is-li, other, ← is-multiply, multiplies)) (ap (λ (x : Outcome). x .value) gives)))
-          (laid ∙ ap (λ (x : Outcome). set n i (x .mark)) gives)
+          → {s : List ℕ} → s ≡ set n i (o .mark) → Given edition p i f m g n d o s × (isNop w ≡ false)
+      multiply-given multiplies third {o} e laid =
+          let gives : o ≡ given w g = multiply-result w is-li other is-multiply multiplies _ _ _ e ∙ named _ ∙ rw third in (
+            record {
+              here = here;
+              so-far = so-far;
+              at = at;
+              its-value = ap (λ (x : Outcome). x .value) gives;
+              its-mark = laid ∙ ap (λ (x : Outcome). set n i (x .mark)) gives;
+            },
+            rw (← is-li, other, ← is-multiply, multiplies),
+          )
 
       -- a short code, with its mark or without
-      module _ (short : k ≡ false) where
-        abbrev row : Outcome
-        row = result (getD shortRows (codeOf w) nop) w (getD g (a .0) zeroRegister) (getD g (b .0) zeroRegister) zeroRegister
+      pub short-given : k ≡ false → {asked : Bool} → asked ≡ ltb i (length n) → {o : Outcome}
+          → (let row = result (getD shortRows (codeOf w) nop) w (getD g (a .0) zeroRegister) (getD g (b .0) zeroRegister) zeroRegister in o ≡ cond asked row (unmarked (row .value)))
+          → {s : List ℕ} → s ≡ set n i (o .mark) → Given edition p i f m g n d o s
+      short-given short {asked} asks {o} e laid = record {
+        here = here;
+        so-far = so-far;
+        at = at;
+        its-value = ap (λ (x : Outcome). x .value) e ∙ value asked ∙ ap (λ (x : Outcome). x .value) gives;
+        its-mark = laid ∙ asked-mark n i (o .mark) (given w g .mark) asked asks (ap (λ (x : Outcome). x .mark) e ∙ mark asked);
+      }
+        where
+          row : Outcome
+          row = result (getD shortRows (codeOf w) nop) w (getD g (a .0) zeroRegister) (getD g (b .0) zeroRegister) zeroRegister
 
-        module _ {asked : Bool} (asks : asked ≡ ltb i (length n)) {o : Outcome} (e : o ≡ cond asked row (unmarked (row .value))) {s : List ℕ} (laid : s ≡ set n i (o .mark)) where
           gives : row ≡ given w g
           gives = short-result w is-li other is-multiply short _ _ _ refl ∙ named _
 
-          its-value : o .value ≡ given w g .value
-          its-value = ap (λ (x : Outcome). x .value) e ∙ either asked ∙ ap (λ (x : Outcome). x .value) gives
-            where
-              either : (t : Bool) → cond t row (unmarked (row .value)) .value ≡ row .value
-              either true = refl
-              either false = refl
+          value : (t : Bool) → cond t row (unmarked (row .value)) .value ≡ row .value
+          value true = refl
+          value false = refl
 
-          its-mark : s ≡ set n i (given w g .mark)
-          its-mark = laid ∙ asked-mark n i (o .mark) (given w g .mark) asked asks (ap (λ (x : Outcome). x .mark) e ∙ either asked)
-            where
-              either : (t : Bool) → cond t row (unmarked (row .value)) .mark ≡ cond t (given w g .mark) 0
-              either true = ap (λ (x : Outcome). x .mark) gives
-              either false = refl
-
-          pub short-line : {t : Bool} → t ≡ isNop w → not t ≡ true → Done p (i + 1) f m (set g (d .0) (o .value)) s
-          short-line {t} is-nop writes = after (rw at (stores w g (sym is-nop ∙ not-true t writes) its-value)) its-mark
-
-          pub nop-line : {t : Bool} → t ≡ isNop w → not t ≡ false → Done p (i + 1) f m g s
-          nop-line {t} is-nop nothing = after (skips w g (sym is-nop ∙ not-false t nothing)) its-mark
+          mark : (t : Bool) → cond t row (unmarked (row .value)) .mark ≡ cond t (given w g .mark) 0
+          mark true = ap (λ (x : Outcome). x .mark) gives
+          mark false = refl
 
 -- before the first line nothing is done, and after the last one all of it
-pub no-line : (p : List ℕ) (f : List Register) (m : List ℕ) → Done p 0 f m f m
+pub no-line : (edition : Edition) (p : List ℕ) (f : List Register) (m : List ℕ) → Done edition p 0 f m f m
 unfolding plainOn marksOn
-no-line p f m = record { registers-left = refl; marks-laid = refl }
+no-line edition p f m = record { registers-left = refl; marks-laid = refl }
 
-pub all-lines : (p : List ℕ) (i : ℕ) (f : List Register) (m : List ℕ) {g : List Register} {n : List ℕ} → length p ≤ i → Done p i f m g n → (g, n) ≡ executedRegisters p f m
-all-lines p i f m h done =
+pub all-lines : (edition : Edition) (p : List ℕ) (i : ℕ) (f : List Register) (m : List ℕ) {g : List Register} {n : List ℕ} → length p ≤ i → Done edition p i f m g n
+    → (g, n) ≡ executedRegisters edition p f m
+all-lines edition p i f m h done =
     let all = take-all i p h in
-    λ j. ((done .registers-left ∙ ap (λ (q : List ℕ). plain q f) all) j, (done .marks-laid ∙ ap (λ (q : List ℕ). marks q f m) all) j)
+    λ j. ((done .registers-left ∙ ap (λ (q : List ℕ). plain edition q f) all) j, (done .marks-laid ∙ ap (λ (q : List ℕ). marks edition q f m) all) j)
 
 -- as many marks as were lent
-pub as-long : {p : List ℕ} {i : ℕ} {f : List Register} {m : List ℕ} {g : List Register} {n : List ℕ} → Done p i f m g n → length n ≡ length m
-as-long {p = p} {i = i} {f = f} {m = m} done = ap length (done .marks-laid) ∙ as-many (λ r. r) (λ r. r) zeroRegister (take i p) f m
+pub as-long : {edition : Edition} {p : List ℕ} {i : ℕ} {f : List Register} {m : List ℕ} {g : List Register} {n : List ℕ} → Done edition p i f m g n → length n ≡ length m
+as-long {edition = edition} {p = p} {i = i} {f = f} {m = m} done = ap length (done .marks-laid) ∙ as-many (λ r. r) (λ r. r) zeroRegister edition (take i p) f m

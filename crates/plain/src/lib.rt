@@ -7,12 +7,14 @@ ghost use Rattle.plain_rules.specs.Answer.{answerOf, executeOf, executeAllOf};
 pub mod lines;
 mod rows;
 
+use crate::lines::cleared;
 use crate::lines::execute_marked;
 use crate::rows::registers_of;
 use crate::rows::rows_of;
 pub use plain_rules::Executed;
 pub use plain_rules::ExecutedProgram;
 pub use plain_rules::ExecutedWord;
+use table::Edition;
 use table::refusal;
 
 // The literal of a struct with a field that is an array of arrays, and the read of that field: the two forms that are proved by hand.
@@ -33,19 +35,20 @@ pub fn file_in(e: Executed) -> [[u32; 4]; 32]
     e.file
 }
 
-// The words are executed on registers: a row is read and written once a program, and not once a word.
-fn run(program: &[u32], file: [[u32; 4]; 32], marks: &mut [u8]) -> [[u32; 4]; 32]
-    ensures { λ r. ⌜ (r, now (marks .exit)) ≡ executedRows (now (program .entry)) file (now (marks .entry)) ⌝ }
+// The words are executed on registers: a row is read and written once a program, and not once a word. Before the first, a register that the edition wires to zero is
+// cleared.
+fn run(edition: Edition, program: &[u32], file: [[u32; 4]; 32], marks: &mut [u8]) -> [[u32; 4]; 32]
+    ensures { λ r. ⌜ (r, now (marks .exit)) ≡ executedRows edition (now (program .entry)) file (now (marks .entry)) ⌝ }
 {
-    let registers = registers_of(file);
-    let after = execute_marked(program, registers, marks);
+    let registers = cleared(edition, registers_of(file));
+    let after = execute_marked(edition, program, registers, marks);
     rows_of(after)
 }
 
-// Executes a program on a file, one word after another, and answers the marks of its lines, zero beyond them. Refused with 2 over 64 words, then with 6 at the first
-// bad word, and then the file is as it was given and no line has a mark.
-pub fn execute_all(program: &[u32], file: [[u32; 4]; 32]) -> ExecutedProgram
-    ensures { λ r. ⌜ r ≡ executeAllOf (now (program .entry)) file ⌝ }
+// Executes a program on a file, one word after another, on a card of this edition, and answers the marks of its lines, zero beyond them. Refused with 2 over 64 words,
+// then with 6 at the first bad word, and then the file is as it was given and no line has a mark.
+pub fn execute_all(edition: Edition, program: &[u32], file: [[u32; 4]; 32]) -> ExecutedProgram
+    ensures { λ r. ⌜ r ≡ executeAllOf edition (now (program .entry)) file ⌝ }
 {
     let mut marks = [0u8; 64];
     if program.len() > 64 {
@@ -57,17 +60,17 @@ pub fn execute_all(program: &[u32], file: [[u32; 4]; 32]) -> ExecutedProgram
         let executed = answer(refusal::WORD, bad, file);
         return ExecutedProgram { executed, marks };
     }
-    let after = run(program, file, &mut marks);
+    let after = run(edition, program, file, &mut marks);
     let executed = answer(0, 0, after);
     ExecutedProgram { executed, marks }
 }
 
 // Executes a lone word, as a program of one line, and answers its mark. Refused with 6.
-pub fn execute(word: u32, file: [[u32; 4]; 32]) -> ExecutedWord
-    ensures { λ r. ⌜ r ≡ executeOf word file ⌝ }
+pub fn execute(edition: Edition, word: u32, file: [[u32; 4]; 32]) -> ExecutedWord
+    ensures { λ r. ⌜ r ≡ executeOf edition word file ⌝ }
 {
     let line = [word];
-    let all = execute_all(&line, file);
+    let all = execute_all(edition, &line, file);
     ExecutedWord {
         executed: all.executed,
         mark: all.marks[0],

@@ -2,3 +2,4 @@ pub mod Boundaries
 pub mod Refusals
 pub mod Theorems
 pub mod Marks
+pub mod Editions

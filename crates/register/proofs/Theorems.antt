@@ -3,8 +3,9 @@
 -- Assumes nothing.
 use Prim.Native.Nat.{ℕ, _+_, _*_, _/_, _%_, _^_, _≤_, _<_}
 use mathlib.Core.Path.{_≡_, refl, sym, ap, _∙_}
-use mathlib.Core.Bool.{Bool, true, false, cond}
+use mathlib.Core.Bool.{Bool, true, false, cond, _&&_, false≢true}
 use mathlib.Core.List.{List, [], _++_}
+use mathlib.Core.Logic.{_↔_}
 use native.Mathlib.Omega.{arith}
 use borrow.Author.Tests.{eq-eqb, ne-eqb, eqb-true, eqb-false}
 use lib.Dec.{eqb}
@@ -13,7 +14,7 @@ use lib.Pow as pow
 use Rattle.register.specs.Halves.{low, high, half}
 use Rattle.register.proofs.Joined.{join-lt}
 use Rattle.register.specs.declared.Register.{Register}
-use Rattle.register.specs.Layout.{number, lane, zeroRegister, rowOf, ofRow, ofBytes, bytesOf, bytesOfWord, withHalf, withHalfword}
+use Rattle.register.specs.Layout.{number, lane, zeroRegister, isZero, rowOf, ofRow, ofBytes, bytesOf, bytesOfWord, withHalf, withHalfword}
 use Rattle.register.proofs.WordBounds.{Held}
 use Rattle.register.proofs.Lanes.{value, digit-at, number-in-words, word-lane, half-lane, word-by-word}
 use Rattle.register.proofs.ByteOrder.{word-of-its-bytes, value-of-word, digits-of-word, next-four, bytes-of-word-at, all-dropped}
@@ -22,6 +23,21 @@ use Rattle.register.proofs.Equality.{same}
 -- "a known zero": all 128 bits are 0
 pub zero-bits : number zeroRegister ≡ 0
 zero-bits = refl
+
+both : (a b : Bool) → (a && b) ≡ true → (a ≡ true) × (b ≡ true)
+both true b e = (refl, e)
+both false b e = absurd (false≢true e)
+
+-- it is the one register of which the test for it holds
+pub zero-exactly : (r : Register) → (isZero r ≡ true) ↔ (r ≡ zeroRegister)
+zero-exactly r = (says, λ e. ap isZero e)
+  where
+    says : isZero r ≡ true → r ≡ zeroRegister
+    says e =
+        let a = both _ (eqb (r .w3) 0) e in
+        let b = both _ (eqb (r .w2) 0) (a .0) in
+        let c = both (eqb (r .w0) 0) (eqb (r .w1) 0) (b .0) in
+        same (eqb-true (r .w0) 0 (c .0)) (eqb-true (r .w1) 0 (c .1)) (eqb-true (r .w2) 0 (b .1)) (eqb-true (r .w3) 0 (a .1))
 
 -- ---- rows and bytes
 

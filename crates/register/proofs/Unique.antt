@@ -5,6 +5,8 @@ use Rattle.determined.specs.Determined.{Determined}
 use Rattle.determined.proofs.OneEquation.{by-value, no-requires}
 use Rattle.register.proofs.Register.zeroed.Kinds as zeroed-kinds
 use Rattle.register.proofs.Register.zeroed.Reads as zeroed-reads
+use Rattle.register.proofs.Register.is_zero.Kinds as is-zero-kinds
+use Rattle.register.proofs.Register.is_zero.Reads as is-zero-reads
 use Rattle.register.proofs.Register.from_bytes.Kinds as from-bytes-kinds
 use Rattle.register.proofs.Register.from_bytes.Reads as from-bytes-reads
 use Rattle.register.proofs.Register.to_bytes.Kinds as to-bytes-kinds
@@ -28,6 +30,9 @@ use Rattle.register.proofs.halves.pick_16.Reads as pick-16-reads
 
 pub zeroed-unique : Determined 0 zeroed-kinds.ps zeroed-kinds.r zeroed-reads.requires zeroed-reads.Post
 zeroed-unique = by-value (λ κs a. no-requires) (λ κs a v w. refl)
+
+pub is-zero-unique : Determined 0 is-zero-kinds.ps is-zero-kinds.r is-zero-reads.requires is-zero-reads.Post
+is-zero-unique = by-value (λ κs a. no-requires) (λ κs a v w. refl)
 
 pub from-bytes-unique : Determined 0 from-bytes-kinds.ps from-bytes-kinds.r from-bytes-reads.requires from-bytes-reads.Post
 from-bytes-unique = by-value (λ κs a. no-requires) (λ κs a v w. refl)

@@ -1,7 +1,7 @@
 -- A register of 128 bits: how document 01 numbers its parts, its zero, its row and its bytes.
 -- Assumes nothing.
 use Prim.Native.Nat.{ℕ, _+_, _*_, _/_, _%_, _^_}
-use mathlib.Core.Bool.{cond}
+use mathlib.Core.Bool.{Bool, cond, _&&_}
 use mathlib.Core.List.{List, [], _∷_}
 use lib.Dec.{eqb}
 use lib.ListN.{getD}
@@ -19,6 +19,10 @@ lane k i r = number r / 2 ^ (k * i) % 2 ^ k
 -- "A register has a known zero"
 abbrev pub zeroRegister : Register
 zeroRegister = record { w0 = 0; w1 = 0; w2 = 0; w3 = 0 }
+
+-- whether a register is that
+abbrev pub isZero : Register → Bool
+isZero r = eqb (r .w0) 0 && eqb (r .w1) 0 && eqb (r .w2) 0 && eqb (r .w3) 0
 
 -- "32 rows of four words": a register as a row, word 0 first, and a row as a register
 abbrev pub rowOf : Register → List ℕ

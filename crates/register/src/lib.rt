@@ -1,7 +1,7 @@
 // A register of 128 bits, made from and given back as bytes and rows.
 
 ghost use mathlib.Core.Path.{_≡_};
-ghost use Rattle.register.specs.Layout.{zeroRegister, rowOf, ofRow, bytesOf, ofBytes, withHalfword};
+ghost use Rattle.register.specs.Layout.{zeroRegister, isZero, rowOf, ofRow, bytesOf, ofBytes, withHalfword};
 
 pub mod bytes;
 pub mod halves;
@@ -32,6 +32,22 @@ impl Register {
         ensures { λ r. ⌜ r ≡ zeroRegister ⌝ }
     {
         Register::ZERO
+    }
+
+    // Whether it is that.
+    pub fn is_zero(self) -> bool
+        ensures { λ r. ⌜ r ≡ isZero self ⌝ }
+    {
+        if self.w0 != 0 {
+            return false;
+        }
+        if self.w1 != 0 {
+            return false;
+        }
+        if self.w2 != 0 {
+            return false;
+        }
+        self.w3 == 0
     }
 
     // From 16 bytes, least significant first.

@@ -1,18 +1,22 @@
 -- For the reader of specs/: the "reads" column as it is printed, row by row; the words that write nothing are exactly those whose operation is NOP, and every other
--- word writes its rd; the refusal numbers.
+-- word writes its rd, but register 0 in the second edition; the refusal numbers.
 -- Assumes nothing.
 use Prim.Native.Nat.{ℕ, zero, suc, _<_}
 use mathlib.Core.Path.{_≡_, refl, sym, ap, _∙_}
-use mathlib.Core.Bool.{Bool, true, false, cond}
+use mathlib.Core.Bool.{Bool, true, false, cond, _||_, true≢false}
 use mathlib.Core.List.{List, [], _∷_, map}
 use native.Mathlib.Omega.{arith}
 use lib.Dec.{eqb, eqb·suc-zero}
+use borrow.Author.Tests.{eq-eqb, ne-eqb}
 use lib.ListN.{getD, getD-replicate, List·getD-map}
+use Rattle.table.specs.declared.Edition.{Edition}
+use Rattle.table.specs.declared.Edition.the-variants.{One, Two}
+use Rattle.table.specs.declared.Target.{Target}
 use Rattle.table.specs.declared.Target.the-variants.{None, To}
 use Rattle.table.specs.Fields.{isLi, isMultiply, isLong, isSubtract, isHigh, codeOf, rdOf}
-use Rattle.table.specs.Operation.{Operation, multiplyRow, shortRows, operationOf, readsOf, takesFirst, takesSecond, takesThird, isNop, targetOf}
+use Rattle.table.specs.Operation.{Operation, multiplyRow, shortRows, operationOf, readsOf, takesFirst, takesSecond, takesThird, isNop, isWired, targetOf}
 use Rattle.table.specs.Operation.Operation.{li, simal, simah, simsl, simsh, slmal, slmah, slmsl, slmsh}
-use Rattle.table.specs.Refusal.{SHORT, COUNT, REGS, PLACE, LENGTH, WORD, POINTER, DRAINED, ROOM, STATE, NAME, OPERANDS, LINES, BUSY}
+use Rattle.table.specs.Refusal.{SHORT, COUNT, REGS, PLACE, LENGTH, WORD, POINTER, DRAINED, ROOM, STATE, NAME, OPERANDS, LINES, EDITION, NONZERO, BUSY}
 use Rattle.table.proofs.Rows.{each-choice}
 use Rattle.table.specs.Operation.Operation.{nop, shrhi, au, cntih, ahs, or, bcw, maxws, minws, mlhu, mlhcu, and, clzw, rotw, sfwu, sfhs}
 
@@ -90,13 +94,37 @@ pub nop-by-its-code : (w : ℕ) → nop? (operationOf w) ≡ isNop w
 unfolding operationOf
 nop-by-its-code w = by-tests (isLi w) (isMultiply w) (isLong w) (isSubtract w) (isHigh w) (codeOf w) (omega arith)
 
-pub writes-by-operation : (w : ℕ) → targetOf w ≡ cond (nop? (operationOf w)) None (To (rdOf w))
+pub writes-by-operation : (edition : Edition) (w : ℕ) → targetOf edition w ≡ cond (nop? (operationOf w) || isWired edition (rdOf w)) None (To (rdOf w))
 unfolding targetOf
-writes-by-operation w = ap (λ (t : Bool). cond t None (To (rdOf w))) (sym (nop-by-its-code w))
+writes-by-operation edition w = ap (λ (t : Bool). cond (t || isWired edition (rdOf w)) None (To (rdOf w))) (sym (nop-by-its-code w))
+
+-- ---- in each edition
+
+-- "Edition 1 .. is untouched": rd, or none for a NOP
+pub written-in-edition-1 : (w : ℕ) → targetOf One w ≡ cond (isNop w) None (To (rdOf w))
+unfolding targetOf
+written-in-edition-1 w = go (isNop w)
+  where
+    go : (t : Bool) → cond {A = Target} (t || false) None (To (rdOf w)) ≡ cond t None (To (rdOf w))
+    go true = refl
+    go false = refl
+
+-- In the second a word whose rd is 0 writes none, and every other word what it writes in the first
+pub dropped-in-edition-2 : (w : ℕ) → rdOf w .0 ≡ 0 → targetOf Two w ≡ None
+unfolding targetOf
+dropped-in-edition-2 w e = rw (eq-eqb (rdOf w .0) 0 e) (go (isNop w))
+  where
+    go : (t : Bool) → cond {A = Target} (t || true) None (To (rdOf w)) ≡ None
+    go true = refl
+    go false = refl
+
+pub others-in-edition-2 : (w : ℕ) → (rdOf w .0 ≡ 0 → ⊥) → targetOf Two w ≡ targetOf One w
+unfolding targetOf
+others-in-edition-2 w h = rw (ne-eqb (rdOf w .0) 0 h)
 
 -- ---- refusal numbers
 
--- in the documents' order they are 1 to 10, then 11 to 13, then 18
-pub refusal-numbers : (SHORT ∷ COUNT ∷ REGS ∷ PLACE ∷ LENGTH ∷ WORD ∷ POINTER ∷ DRAINED ∷ ROOM ∷ STATE ∷ NAME ∷ OPERANDS ∷ LINES ∷ BUSY ∷ [])
-    ≡ (1 ∷ 2 ∷ 3 ∷ 4 ∷ 5 ∷ 6 ∷ 7 ∷ 8 ∷ 9 ∷ 10 ∷ 11 ∷ 12 ∷ 13 ∷ 18 ∷ [])
+-- in the order of their numbers they are 1 to 10, then 11 to 13, 14 and 15, then 18
+pub refusal-numbers : (SHORT ∷ COUNT ∷ REGS ∷ PLACE ∷ LENGTH ∷ WORD ∷ POINTER ∷ DRAINED ∷ ROOM ∷ STATE ∷ NAME ∷ OPERANDS ∷ LINES ∷ EDITION ∷ NONZERO ∷ BUSY ∷ [])
+    ≡ (1 ∷ 2 ∷ 3 ∷ 4 ∷ 5 ∷ 6 ∷ 7 ∷ 8 ∷ 9 ∷ 10 ∷ 11 ∷ 12 ∷ 13 ∷ 14 ∷ 15 ∷ 18 ∷ [])
 refusal-numbers = refl

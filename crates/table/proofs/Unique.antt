@@ -35,6 +35,8 @@ use Rattle.table.proofs.operands.reads.Kinds as reads-kinds
 use Rattle.table.proofs.operands.reads.Reads as reads-reads
 use Rattle.table.proofs.writes.is_nop.Kinds as is-nop-kinds
 use Rattle.table.proofs.writes.is_nop.Reads as is-nop-reads
+use Rattle.table.proofs.writes.is_wired.Kinds as is-wired-kinds
+use Rattle.table.proofs.writes.is_wired.Reads as is-wired-reads
 use Rattle.table.proofs.writes.target_of.Kinds as target-of-kinds
 use Rattle.table.proofs.writes.target_of.Reads as target-of-reads
 use Rattle.table.proofs.refusal.first_bad.Kinds as first-bad-kinds
@@ -91,6 +93,9 @@ reads-unique = by-value (λ κs a. no-requires) (λ κs a v w. refl)
 
 pub is-nop-unique : Determined 0 is-nop-kinds.ps is-nop-kinds.r is-nop-reads.requires is-nop-reads.Post
 is-nop-unique = by-value (λ κs a. no-requires) (λ κs a v w. refl)
+
+pub is-wired-unique : Determined 0 is-wired-kinds.ps is-wired-kinds.r is-wired-reads.requires is-wired-reads.Post
+is-wired-unique = by-value (λ κs a. no-requires) (λ κs a v w. refl)
 
 pub target-of-unique : Determined 0 target-of-kinds.ps target-of-kinds.r target-of-reads.requires target-of-reads.Post
 target-of-unique = by-value (λ κs a. no-requires) (λ κs a v w. refl)

@@ -1,10 +1,13 @@
 -- Which of the 25 instructions a word is, which fields it reads, and which register it writes.
 -- Assumes nothing.
 use Prim.Native.Nat.{ℕ}
-use mathlib.Core.Bool.{Bool, true, false, cond}
+use mathlib.Core.Bool.{Bool, true, false, cond, _||_}
 use mathlib.Core.List.{List, [], _∷_}
 use lib.Dec.{eqb}
 use lib.ListN.{getD}
+use Rattle.table.specs.declared.Edition.{Edition}
+use Rattle.table.specs.declared.Edition.the-variants.{One, Two}
+use Rattle.table.specs.declared.Pointer.{Pointer}
 use Rattle.table.specs.declared.Reads.{Reads}
 use Rattle.table.specs.declared.Reads.the-variants.{Nothing, Rs1, Rs1Rs2, Rs1Rs2Rs3, Rd}
 use Rattle.table.specs.declared.Target.{Target}
@@ -93,6 +96,11 @@ takesThird Rd = false
 abbrev pub isNop : ℕ → Bool
 isNop w = cond (isLi w) false (cond (isMultiply w) false (eqb (codeOf w) 0))
 
--- the register that a word writes, or none: NOP "writes nothing"
-unfoldable pub targetOf : ℕ → Target
-targetOf w = cond (isNop w) None (To (rdOf w))
+-- "The next boards wire register 0 to zero": those of the second edition, and no other register
+abbrev pub isWired : Edition → Pointer → Bool
+isWired One p = false
+isWired Two p = eqb (p .0) 0
+
+-- the register that a word writes, or none: NOP "writes nothing", and a write to a register that is wired to zero "is dropped"
+unfoldable pub targetOf : Edition → ℕ → Target
+targetOf edition w = cond (isNop w || isWired edition (rdOf w)) None (To (rdOf w))

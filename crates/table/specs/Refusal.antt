@@ -44,6 +44,12 @@ OPERANDS = 12
 abbrev pub LINES : ℕ
 LINES = 13
 
+abbrev pub EDITION : ℕ
+EDITION = 14
+
+abbrev pub NONZERO : ℕ
+NONZERO = 15
+
 abbrev pub BUSY : ℕ
 BUSY = 18
 

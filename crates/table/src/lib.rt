@@ -27,8 +27,16 @@ pub enum Reads {
 
 // The register that a word writes, or none.
 pub enum Target {
-    // a NOP writes nothing
+    // a NOP writes nothing, and a write to a register that is wired to zero is dropped
     None,
     // rd of any other word
     To(Pointer),
+}
+
+// The edition of a card: boards of both run side by side.
+pub enum Edition {
+    // all registers can be written
+    One,
+    // register 0 is wired to zero
+    Two,
 }

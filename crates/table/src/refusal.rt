@@ -31,6 +31,10 @@ pub const OPERANDS: u32 = 12;
 
 pub const LINES: u32 = 13;
 
+pub const EDITION: u32 = 14;
+
+pub const NONZERO: u32 = 15;
+
 pub const BUSY: u32 = 18;
 
 // 2^25: a word of this or more is bad, no instruction.

@@ -14,7 +14,7 @@ use lib.Seq.{take-append-seam}
 use Rattle.table.specs.Refusal.{COUNT, WORD, LINES, firstBad}
 use Rattle.table.proofs.Decided.{apart, ends}
 use Rattle.job_rules.specs.declared.Written.{Written}
-use Rattle.job_rules.specs.Layout.{instructionsAt}
+use Rattle.table.specs.declared.Edition.{Edition}
 use Rattle.job_rules.specs.Write.{sizeOrRefusal, writeOf}
 use Rattle.text_rules.specs.declared.Operands.{Operands}
 use Rattle.text_rules.specs.declared.Line.{Line}
@@ -141,15 +141,16 @@ no-bad-word l = below-is-good (wordsRead (readTextOf l)) (words-below l) ∙ wor
 abbrev pub NotForWords : Written → Type 0
 NotForWords w = (w .refusal ≡ COUNT → ⊥) × (w .refusal ≡ WORD → ⊥)
 
-takes-them : (words bytes out : List ℕ) → length words ≤ 64 → AllBelow (2 ^ 25) words → NotForWords (writeOf instructionsAt words bytes out .0)
+takes-them : (edition : Edition) (words bytes out : List ℕ) → length words ≤ 64 → AllBelow (2 ^ 25) words → NotForWords (writeOf edition words bytes out .0)
 unfolding writeOf sizeOrRefusal
-takes-them words bytes out few below =
+takes-them edition words bytes out few below =
     apart _ _ NotForWords _ _ (λ many. let h = ltb-true 64 (length words) many in absurd (omega arith)) (λ _.
     apart _ _ NotForWords _ _ (λ _. (λ e. omega arith, λ e. omega arith)) (λ _.
     apart _ _ NotForWords _ _ (λ bad. let h = ltb-true (firstBad words) (length words) bad in absurd (omega (arith, below-is-good words below))) (λ _.
     apart _ _ NotForWords _ _ (λ _. (λ e. omega arith, λ e. omega arith)) (λ _.
-    subst NotForWords ends (λ e. omega arith, λ e. omega arith)))))
+    apart _ _ NotForWords _ _ (λ _. (λ e. omega arith, λ e. omega arith)) (λ _.
+    subst NotForWords ends (λ e. omega arith, λ e. omega arith))))))
 
--- Whatever registers go with them and whatever the buffer, the writer refuses the words of a text neither with 2 nor with 6.
-pub writer-takes-words : (l bytes out : List ℕ) → NotForWords (writeOf instructionsAt (wordsRead (readTextOf l)) bytes out .0)
-writer-takes-words l bytes out = takes-them (wordsRead (readTextOf l)) bytes out (omega (arith, few-words l, words-count l)) (words-below l)
+-- Whatever the edition, whatever registers go with them and whatever the buffer, the writer refuses the words of a text neither with 2 nor with 6.
+pub writer-takes-words : (edition : Edition) (l bytes out : List ℕ) → NotForWords (writeOf edition (wordsRead (readTextOf l)) bytes out .0)
+writer-takes-words edition l bytes out = takes-them edition (wordsRead (readTextOf l)) bytes out (omega (arith, few-words l, words-count l)) (words-below l)

@@ -10,7 +10,6 @@ use Rattle.table.specs.Decided.{decided}
 use Rattle.table.specs.Refusal.{COUNT, WORD, ROOM, firstBad}
 use Rattle.job_rules.specs.declared.ReadJob.{ReadJob}
 use Rattle.job_rules.specs.declared.Written.{Written}
-use Rattle.job_rules.specs.Layout.{instructionsAt}
 use Rattle.job_rules.specs.Read.{readOf}
 use Rattle.job_rules.specs.Program.{linesOf}
 use Rattle.job_rules.specs.Write.{writtenOf}
@@ -87,7 +86,7 @@ listOf words out =
 -- the same of a job file's program: a file that is refused is answered with its number and 6's place, "with the buffer unaltered"
 unfoldable pub listJobOf : List ℕ → List ℕ → Written × List ℕ
 listJobOf file out =
-    let read : ReadJob = readOf instructionsAt file in
+    let read : ReadJob = readOf file in
     decided
     ((not (eqb (read .refusal) 0), (writtenOf (read .refusal) (read .place) 0, out)) ∷ [])
     (listOf (linesOf (read .job .program)) out)

@@ -9,7 +9,7 @@ use lib.ListN.{length, drop, replicate, length-append}
 use Rattle.table.proofs.Decided.{stops, passes, ends, denied, not-denied}
 use Rattle.job_rules.specs.declared.ReadJob.{ReadJob}
 use Rattle.job_rules.specs.declared.Written.{Written}
-use Rattle.job_rules.specs.Layout.{instructionsAt, twoAt, wordsIn}
+use Rattle.job_rules.specs.Layout.{instructionsAt, editionIn, twoAt, wordsIn}
 use Rattle.job_rules.specs.Read.{filled, readOf}
 use Rattle.job_rules.specs.Program.{linesOf}
 use Rattle.job_rules.specs.Write.{writtenOf}
@@ -19,7 +19,7 @@ use Rattle.text_rules.specs.Listing.{listOf, listJobOf}
 filled-long : (words : List ℕ) → length words ≤ length (filled 64 0 words)
 filled-long words = omega (arith, length-append words (replicate (64 - length words) 0))
 
-module _ (file : List ℕ) {r : ReadJob} (is : r ≡ readOf instructionsAt file) where
+module _ (file : List ℕ) {r : ReadJob} (is : r ≡ readOf file) where
   -- a file that is refused
   pub file-refused : (out : List ℕ) {answer : Written} → (r .refusal ≡ 0 → ⊥) → answer ≡ writtenOf (r .refusal) (r .place) 0 → (answer, out) ≡ listJobOf file out
   unfolding listJobOf
@@ -29,9 +29,9 @@ module _ (file : List ℕ) {r : ReadJob} (is : r ≡ readOf instructionsAt file)
     -- its lines stand within the 64 words
     pub lines-within : r .job .program .n .0 ≤ length (r .job .program .words)
     lines-within =
-        let a = accepted instructionsAt file (sym (ap (λ (x : ReadJob). x .refusal) is) ∙ good) in
-        let job = is ∙ read instructionsAt file a in
-        rw job (filled-long (wordsIn (twoAt file 0) (drop instructionsAt file)))
+        let a = accepted (editionIn file) file (sym (ap (λ (x : ReadJob). x .refusal) is) ∙ good) in
+        let job = is ∙ read (editionIn file) file a in
+        rw job (filled-long (wordsIn (twoAt file 0) (drop (instructionsAt (editionIn file)) file)))
 
     -- they are listed
     pub file-listed : (out : List ℕ) {x : Written × List ℕ} → x ≡ listOf (linesOf (r .job .program)) out → x ≡ listJobOf file out

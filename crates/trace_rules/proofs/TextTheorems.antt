@@ -5,7 +5,7 @@ use Rattle.trace_rules.proofs.Shared.{jobText, putOf, writeTextOf, larg
 use Rattle.unit_rules.proofs.Shared.{ℕ, _-_, _≤_, _≡_, refl, sym, ap, _∙_, Bool, true, false, List, [], _∷_, _++_, arith}
 use Rattle.unit_rules.proofs.Shared.{eqb-true, eqb-false, eqb, length, take, replicate, length-append, length-drop, length-replicate}
 use Rattle.unit_rules.proofs.Shared.{take-at, firstBad, ReadJob, headerOf, testedOf, bodyOf, lastOf, freshOf, loadedBy}
-use Rattle.unit_rules.proofs.Shared.{loadOf, goOf, drainedOf, wellMadeOf, instructionsAt, readOf}
+use Rattle.unit_rules.proofs.Shared.{loadOf, goOf, drainedOf, wellMadeOf, readOf}
 use Rattle.table.specs.Decided.{decided}
 use Rattle.table.proofs.Decided.{each}
 use Rattle.job_rules.specs.Layout.{bytesToRead}
@@ -16,7 +16,7 @@ use Rattle.trace_rules.proofs.TextPut.{text-put, text-refused, text-acc
 -- ---- which text
 
 -- a load on a fresh unit is refused exactly as reading is, and with that number
-pub refused-as-read : (file : List ℕ) → loadOf file freshOf ≡ loadedBy (readOf instructionsAt file) freshOf
+pub refused-as-read : (file : List ℕ) → loadOf file freshOf ≡ loadedBy (readOf file) freshOf
 refused-as-read file = load-reads file freshOf (fresh-drained .1) (fresh-drained .0)
 
 -- the unit that is traced
@@ -42,11 +42,11 @@ unfolding endText rowsOf twoDigits loadOf goOf wellMadeOf drainedOf headerOf tes
 empty-job = accepted-text (0 ∷ 0 ∷ 0 ∷ 0 ∷ 8 ∷ 0 ∷ 8 ∷ 0 ∷ []) refl
 
 -- the bytes of a file that decide what is read of it decide its text: a file that is too long is refused as they are
-pub first-777-bytes : (file : List ℕ) → jobText (take bytesToRead file) ≡ jobText file
+pub first-781-bytes : (file : List ℕ) → jobText (take bytesToRead file) ≡ jobText file
 unfolding jobText
-first-777-bytes file =
+first-781-bytes file =
     ap textFor
-    (refused-as-read (take bytesToRead file) ∙ ap (λ (r : ReadJob). loadedBy r freshOf) (of-a-job.first-777-bytes file) ∙ sym (refused-as-read file))
+    (refused-as-read (take bytesToRead file) ∙ ap (λ (r : ReadJob). loadedBy r freshOf) (of-a-job.first-781-bytes file) ∙ sym (refused-as-read file))
 
 -- ---- the room that it takes
 

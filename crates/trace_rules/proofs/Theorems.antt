@@ -1,12 +1,14 @@
 -- For the reader of specs/: what a row says is what happened. Carried by where the latches are (`Positions` of `unit_rules`) and by the cases of a latch.
 -- Assumes nothing.
-use Rattle.unit_rules.proofs.Shared.{ℕ, zero, suc, _+_, _-_, _<_, _≤_, _≡_, refl, sym, ap, subst, _∙_, _⊎_, ⊎-elim, Bool, true, false, cond, _&&_}
+use Rattle.unit_rules.proofs.Shared.{ℕ, zero, suc, _+_, _-_, _<_, _≤_, _≡_, refl, sym, ap, subst, _∙_, _⊎_, ⊎-elim, Bool, true, false, cond, _&&_, _||_}
 use Rattle.unit_rules.proofs.Shared.{and-false, List, arith, leb-false, lt-ltb, lt-leb, le-leb, ltb-true, ltb-false, leb, ltb, length, take, STATE, DRAINED, ROOM, Register, Pointer, Target, None, isLi}
-use Rattle.unit_rules.proofs.Shared.{rdOf, firstOf, rs2Of, rs3Of, Operation, operationOf, readsOf, takesFirst, takesSecond, takesThird, isNop, targetOf, stored}
+use Rattle.unit_rules.proofs.Shared.{rdOf, firstOf, rs2Of, rs3Of, Operation, operationOf, readsOf, takesFirst, takesSecond, takesThird, isNop, isWired, targetOf, stored, Edition, One, Two}
 use Rattle.unit_rules.proofs.Shared.{plain, linesOf, instructionOf, instructionAt, fetchedIn, isTarget, newest, readBy, newestOperands, afterWB, afterEX, cycleOf, inDecoded}
 use Rattle.unit_rules.proofs.Shared.{false≢true, map, getD, rowOf, inExecuted, decodedWith, lastOf, drainedOf, wellMadeOf, goOf, cycledOf, Whole, afterCalls, unitAfter, madeUnless, cyclesIn}
 use Rattle.table.specs.declared.Target.the-variants.{To as ToRegister}
-use Rattle.table.proofs.Decided.{stops, passes, ends, apart, each, not-denied}
+use Rattle.table.proofs.Decided.{stops, passes, ends, apart, each, not-denied, the-second}
+use borrow.Author.Tests.{eq-eqb}
+use Rattle.row_rules.specs.declared.Flags.{Flags}
 use Rattle.alu_rules.specs.declared.Outcome.{Outcome}
 use Rattle.job_rules.specs.declared.Program.{Program}
 use Rattle.plain_rules.specs.Answer.{executeAllOf}
@@ -29,6 +31,7 @@ use Rattle.unit_rules.specs.Cycle.{worked, markIn}
 use Rattle.unit_rules.specs.Sequence.Call.{row}
 use Rattle.unit_rules.proofs.Positions.{placed-cycle, drained-is, not-drained-gone}
 use Rattle.unit_rules.proofs.WellMade.{well-made-says, last-small}
+use Rattle.unit_rules.proofs.Wired.{not-0}
 use Rattle.unit_rules.proofs.Demand3.{demand3-number, demand3-registers, demand3-cycle-answers, demand3-marks}
 use Rattle.trace_rules.proofs.Going.{goes}
 use Rattle.trace_rules.specs.RowOfCycle.{stageOf, writesTo, flagOf, flagsFor, flagsOf, changeTo, changeOf, shownBy, shownOf}
@@ -91,36 +94,36 @@ unfolding shownBy cycleOf
 row-change u = sym (change-by (u .executed) (u .registers))
 
 -- every instruction that a well-made unit holds is the instruction of its word
-abbrev heldIn : IfId → Instruction
-heldIn IF/ID.Empty = instructionOf 0
-heldIn (IF/ID.Holds i) = i
+abbrev heldIn : Edition → IfId → Instruction
+heldIn edition IF/ID.Empty = instructionOf edition 0
+heldIn edition (IF/ID.Holds i) = i
 
-abbrev OfItsWord : IfId → Type 0
-OfItsWord z = heldIn z ≡ instructionOf (heldIn z .word)
+abbrev OfItsWord : Edition → IfId → Type 0
+OfItsWord edition z = heldIn edition z ≡ instructionOf edition (heldIn edition z .word)
 
-fetched-of-its-word : (p : Program) (c : ℕ) → OfItsWord (fetchedIn p c)
+fetched-of-its-word : (p : Program) (c : ℕ) → OfItsWord (p .edition) (fetchedIn p c)
 fetched-of-its-word p zero = refl
 fetched-of-its-word p (suc k) = go (ltb k (p .n .0))
   where
-    go : (t : Bool) → OfItsWord (cond t (IF/ID.Holds (instructionAt p k)) IF/ID.Empty)
+    go : (t : Bool) → OfItsWord (p .edition) (cond t (IF/ID.Holds (instructionAt p k)) IF/ID.Empty)
     go true = refl
     go false = refl
 
-nothing-of : (latch : ExWb) → OfItsWord (inExecuted latch) → isNothing (changeOf latch) ≡ writesNothing (stageOf (inExecuted latch))
+nothing-of : (edition : Edition) (latch : ExWb) → OfItsWord edition (inExecuted latch) → isNothing (changeOf latch) ≡ writesNothing edition (stageOf (inExecuted latch))
 unfolding targetOf
-nothing-of EX/WB.Empty e = refl
-nothing-of (EX/WB.Holds i o) e = rw (ap (λ (j : Instruction). j .target) e) (go (isNop (i .word)))
+nothing-of edition EX/WB.Empty e = refl
+nothing-of edition (EX/WB.Holds i o) e = rw (ap (λ (j : Instruction). j .target) e) (go (isNop (i .word) || isWired edition (rdOf (i .word))))
   where
     go : (t : Bool) → isNothing (changeTo (cond t None (ToRegister (rdOf (i .word)))) o) ≡ t
     go true = refl
     go false = refl
 
--- `--` exactly where nothing was written: WB "is empty or holds a NOP"
-pub row-nothing : (u : Unit) → wellMadeOf u ≡ true → isNothing (shownOf u .change) ≡ writesNothing (shownOf u .write)
+-- `--` exactly where nothing was written: WB "is empty or holds a NOP", or its write is dropped
+pub row-nothing : (u : Unit) → wellMadeOf u ≡ true → isNothing (shownOf u .change) ≡ writesNothing (u .program .edition) (shownOf u .write)
 unfolding shownBy
 row-nothing u made =
     let here = well-made-says u made .placed .in-EX/WB in
-    nothing-of (u .executed) (subst OfItsWord (sym here) (fetched-of-its-word (u .program) (u .cycle - 2)))
+    nothing-of (u .program .edition) (u .executed) (subst (OfItsWord (u .program .edition)) (sym here) (fetched-of-its-word (u .program) (u .cycle - 2)))
 
 -- ---- the flags
 
@@ -132,9 +135,9 @@ shows-of : (latch : ExWb) (p : Pointer) → writesTo latch p ≡ shows (changeOf
 shows-of EX/WB.Empty p = refl
 shows-of (EX/WB.Holds i o) p = shows-to (i .target) o p
 
-flags-by : (wb : ExWb) (ex : IdEx) → OfItsWord (inDecoded ex) → flagsOf wb ex ≡ flagsShown (stageOf (inDecoded ex)) (changeOf wb)
-flags-by wb ID/EX.Empty e = refl
-flags-by wb (ID/EX.Holds i o) e =
+flags-by : (edition : Edition) (wb : ExWb) (ex : IdEx) → OfItsWord edition (inDecoded ex) → flagsOf wb ex ≡ flagsShown (stageOf (inDecoded ex)) (changeOf wb)
+flags-by edition wb ID/EX.Empty e = refl
+flags-by edition wb (ID/EX.Holds i o) e =
     let first = there (i .first) (firstOf (i .word)) (ap (λ (j : Instruction). j .first) e) in
     let second = there (i .second) (rs2Of (i .word)) (ap (λ (j : Instruction). j .second) e) in
     let third = there (i .third) (rs3Of (i .word)) (ap (λ (j : Instruction). j .third) e) in
@@ -152,7 +155,36 @@ pub row-flags : (u : Unit) → wellMadeOf u ≡ true → shownOf u .flags ≡ fl
 unfolding shownBy
 row-flags u made =
     let here = well-made-says u made .placed .in-ID/EX in
-    flags-by (u .executed) (u .decoded) (subst OfItsWord (sym here) (fetched-of-its-word (u .program) (u .cycle - 1)))
+    flags-by (u .program .edition) (u .executed) (u .decoded) (subst (OfItsWord (u .program .edition)) (sym here) (fetched-of-its-word (u .program) (u .cycle - 1)))
+
+-- "raises no flag and shows `--`": in the second edition, whatever is latched, no row shows that register 0 was written
+module _ (u : Unit) (made : wellMadeOf u ≡ true) (second : u .program .edition ≡ Two) where
+  pub register-0-not-shown : (p : Pointer) → p .0 ≡ 0 → shows (shownOf u .change) p ≡ false
+  unfolding shownBy
+  register-0-not-shown p zeroth = sym (shows-of (u .executed) p) ∙ go (u .executed) (well-made-says u made .placed .in-EX/WB)
+    where
+      go : (x : ExWb) → inExecuted x ≡ fetchedIn (u .program) (u .cycle - 2) → writesTo x p ≡ false
+      go EX/WB.Empty e = refl
+      go (EX/WB.Holds i o) e = not-0 (u .program) second (u .cycle - 2) i e p zeroth
+
+  -- a word in WB that names it as its rd shows `--`
+  pub dropped-shows-nothing : (w : ℕ) → shownOf u .write ≡ In.Holds w → rdOf w .0 ≡ 0 → isNothing (shownOf u .change) ≡ true
+  dropped-shows-nothing w here zeroth =
+      row-nothing u made ∙ ap (writesNothing (u .program .edition)) here ∙ the-second (isNop w) (ap (λ (e : Edition). isWired e (rdOf w)) second ∙ eq-eqb (rdOf w .0) 0 zeroth)
+
+  -- and of the word in EX, no field that names it has its flag
+  pub register-0-raises-nothing : (w : ℕ) → shownOf u .execute ≡ In.Holds w
+      → (firstOf w .0 ≡ 0 → shownOf u .flags .rs1 ≡ false) × (rs2Of w .0 ≡ 0 → shownOf u .flags .rs2 ≡ false) × (rs3Of w .0 ≡ 0 → shownOf u .flags .rs3 ≡ false)
+  register-0-raises-nothing w here =
+      let all = row-flags u made ∙ ap (λ (s : Stage). flagsShown s (shownOf u .change)) here in (
+        λ zeroth. ap (λ (f : Flags). f .rs1) all ∙ none (takesFirst (readsOf (operationOf w))) (firstOf w) zeroth,
+        λ zeroth. ap (λ (f : Flags). f .rs2) all ∙ none (takesSecond (readsOf (operationOf w))) (rs2Of w) zeroth,
+        λ zeroth. ap (λ (f : Flags). f .rs3) all ∙ none (takesThird (readsOf (operationOf w))) (rs3Of w) zeroth,
+      )
+    where
+      none : (reads : Bool) (p : Pointer) → p .0 ≡ 0 → (reads && shows (shownOf u .change) p) ≡ false
+      none true p zeroth = register-0-not-shown p zeroth
+      none false p zeroth = refl
 
 li-shown : (w : ℕ) (x : Change) → isLi w ≡ true → flagsShown (In.Holds w) x ≡ record { rs1 = shows x (rdOf w); rs2 = false; rs3 = false }
 unfolding operationOf firstOf
@@ -275,7 +307,8 @@ module _ (u : Unit) (whole : Whole (u .registers)) (made : wellMadeOf u ≡ true
   gone-number = omega (arith, demand3-number u whole made c (omega arith))
 
   -- the row of cycle c + 1 since a go shows by what the plain machine's next word changes the registers
-  pub gone-row : plain (take (suc c - 3) lines) (u .registers) ≡ changedBy (shownOf before .change) (plain (take (c - 3) lines) (u .registers))
+  pub gone-row : plain (u .program .edition) (take (suc c - 3) lines) (u .registers)
+      ≡ changedBy (shownOf before .change) (plain (u .program .edition) (take (c - 3) lines) (u .registers))
   gone-row =
       let answers : cycledOf before .refusal ≡ 0
       = rw (lt-leb (lastOf (u .program .n .0)) c early) at (demand3-cycle-answers u whole made c (omega arith)) in
@@ -298,6 +331,6 @@ mark-by (EX/WB.Holds i o) e = go (i .target) e
 -- it does not show `--`
 module _ (u : Unit) (whole : Whole (u .registers)) (made : wellMadeOf u ≡ true) (k : ℕ) (line : k < u .program .n .0) where
   pub gone-mark : (let shown = shownOf (afterCalls (k + 3) (goOf u .unit)) .change in
-      isNothing shown ≡ false → markShown shown ≡ getD (executeAllOf (linesOf (u .program)) (map rowOf (u .registers)) .marks) k 0)
+      isNothing shown ≡ false → markShown shown ≡ getD (executeAllOf (u .program .edition) (linesOf (u .program)) (map rowOf (u .registers)) .marks) k 0)
   unfolding shownBy
   gone-mark writes = mark-by (afterCalls (k + 3) (goOf u .unit) .executed) writes ∙ demand3-marks u whole made k line

@@ -1,14 +1,15 @@
 -- What happened in a cycle, as its row says it.
 -- Assumes nothing.
 use Prim.Native.Nat.{ℕ}
-use mathlib.Core.Bool.{Bool, true, false, cond, _&&_}
+use mathlib.Core.Bool.{Bool, true, false, cond, _&&_, _||_}
 use mathlib.Core.List.{List}
 use lib.Dec.{eqb}
 use lib.ListN.{set}
 use Rattle.register.specs.declared.Register.{Register}
+use Rattle.table.specs.declared.Edition.{Edition}
 use Rattle.table.specs.declared.Pointer.{Pointer}
-use Rattle.table.specs.Fields.{firstOf, rs2Of, rs3Of}
-use Rattle.table.specs.Operation.{operationOf, readsOf, takesFirst, takesSecond, takesThird, isNop}
+use Rattle.table.specs.Fields.{firstOf, rs2Of, rs3Of, rdOf}
+use Rattle.table.specs.Operation.{operationOf, readsOf, takesFirst, takesSecond, takesThird, isNop, isWired}
 use Rattle.row_rules.specs.declared.Stage.{Stage}
 use Rattle.row_rules.specs.declared.Stage.the-variants as In
 use Rattle.row_rules.specs.declared.Flags.{Flags}
@@ -31,10 +32,10 @@ abbrev pub markShown : Change → ℕ
 markShown Nothing = 0
 markShown (To p o) = o .mark
 
--- whether the word that a row shows in WB writes nothing: "it is empty or holds a NOP"
-abbrev pub writesNothing : Stage → Bool
-writesNothing In.Empty = true
-writesNothing (In.Holds w) = isNop w
+-- whether the word that a row shows in WB writes nothing: "it is empty or holds a NOP", or names a register that the edition wires
+abbrev pub writesNothing : Edition → Stage → Bool
+writesNothing edition In.Empty = true
+writesNothing edition (In.Holds w) = isNop w || isWired edition (rdOf w)
 
 -- whether a row shows that this register was written
 abbrev pub shows : Change → Pointer → Bool

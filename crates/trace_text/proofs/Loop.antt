@@ -14,7 +14,7 @@ use Rattle.trace_rules.proofs.TextLengths.{rows-long}
 
 module _ (i : ℕ) (u : Unit) {f : List Register} {l : InFlight} {delivered held : IfId} {row : Row} (few : u .program .n .0 ≤ 64)
     (so-far : unitWith u i f l ≡ cyclesOf i u)
-    (fetched : delivered ≡ deliveredOf (u .program .n) (l .count) (getD (u .program .words) (l .count .0 % 64) 0))
+    (fetched : delivered ≡ deliveredOf (u .program .edition) (u .program .n) (l .count) (getD (u .program .words) (l .count .0 % 64) 0))
     (in-ID/EX : held ≡ inDecoded (l .decoded)) (o : Operands)
     (shown : row ≡ shownBy (u .cycle + (i + 1)) delivered (l .fetched) (decodedWith held o) (l .executed)) where
   its-row : row ≡ shownOf (cyclesOf i u)

@@ -25,6 +25,8 @@ pub(crate) fn put_rows(out: &mut [u8], u: Unit, m: u32)
 {
     let words = u.program.words;
     let n = u.program.n;
+    let program = u.program;
+    let edition = program.edition;
     let mut registers = u.registers;
     let mut flight = in_flight(u);
     let mut made: u32 = 0;
@@ -49,7 +51,7 @@ pub(crate) fn put_rows(out: &mut [u8], u: Unit, m: u32)
             third: registers[third],
         };
         let here = (flight.count.0 % 64) as usize;
-        let next = advanced(n, flight, write, read, words[here]);
+        let next = advanced(edition, n, flight, write, read, words[here]);
         let delivered = next.fetched;
         let decoding = flight.decoded;
         let held = in_decoded(decoding);

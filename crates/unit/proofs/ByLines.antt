@@ -41,14 +41,14 @@ module _ (u : Unit) (made : wellMadeOf u ≡ true) (m : ℕ) (fits : u .cycle + 
 module _ (u : Unit) (m : ℕ) (settled : Settled u) (enough : u .program .n .0 ≤ length (u .program .words)) (whole : Whole (u .registers))
     (fits : u .cycle + m ≤ lastOf (u .program .n .0)) where
   pub by-lines : {start end : ℕ} → start ≡ u .cycle - 3 → end ≡ u .cycle + m - 3
-      → {g : List Register} → g ≡ plain (take (end - start) (drop start (u .program .words))) (u .registers)
+      → {g : List Register} → g ≡ plain (u .program .edition) (take (end - start) (drop start (u .program .words))) (u .registers)
       → {l : InFlight} → l ≡ settledFlight (u .program) (u .cycle + m) g
       → {v : Unit} → v ≡ unitWith u m g l
       → v ≡ cyclesOf m u
   by-lines es ee eg el ev =
       let lines = lines-completed (u .program .n .0) (u .cycle + m) fits in
       let within = part (u .cycle - 3) (many (u .cycle) m) (u .program .n .0) (u .program .words) (omega arith) in
-      let file = eg ∙ (λ i. plain (take (ee i - es i) (drop (es i) (u .program .words))) (u .registers)) ∙ ap (λ (l : List ℕ). plain l (u .registers)) (sym within) in
+      let file = eg ∙ (λ i. plain (u .program .edition) (take (ee i - es i) (drop (es i) (u .program .words))) (u .registers)) ∙ ap (λ (l : List ℕ). plain (u .program .edition) l (u .registers)) (sym within) in
       ev ∙ ap (unitWith u m _) el ∙ ap (λ (g : List Register). unitWith u m g (settledFlight (u .program) (u .cycle + m) g)) file
       ∙ sym (settled-on u settled whole enough m)
 

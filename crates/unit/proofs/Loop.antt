@@ -1,8 +1,8 @@
 -- The loop over cycles: its locals, put together, are the unit after so many cycles. Carried by the laws of the stages, a turn at a time; the indices are in range
 -- because a well-made unit's latches hold instructions of its program.
 -- Assumes nothing.
-use Rattle.unit_rules.proofs.Shared.{ℕ, zero, suc, _+_, _-_, _%_, _≤_, _<_, _≡_, refl, sym, ap, subst, _∙_, Bool, true, false, cond, List, add-assoc, add-zero}
-use Rattle.unit_rules.proofs.Shared.{add-one, arith, ltb, getD, set, Register, zeroRegister, Target, None, To, isLi, rdOf, rs1Of, firstOf, isNop}
+use Rattle.unit_rules.proofs.Shared.{ℕ, zero, suc, _+_, _-_, _%_, _≤_, _<_, _≡_, refl, sym, ap, subst, _∙_, Bool, true, false, cond, _||_, List, add-assoc, add-zero}
+use Rattle.unit_rules.proofs.Shared.{add-one, arith, ltb, getD, set, Register, zeroRegister, Target, None, To, isLi, rdOf, rs1Of, firstOf, isNop, isWired, Edition}
 use Rattle.unit_rules.proofs.Shared.{targetOf, instructionOf, instructionAt, fetchedIn, afterWB, afterID, cycleOf, cyclesOf, inExecuted, wellMadeOf, writeTo}
 use Rattle.unit_rules.proofs.Shared.{writeOf, sourcesOf, readAt, decodedWith, inFlightOf, unitWith, advancedOf}
 use Rattle.job_rules.specs.declared.Program.{Program}
@@ -23,7 +23,7 @@ pub turn : (u : Unit) {g : List Register} {l : InFlight} {w : Write} {v : Source
     → u .program .n .0 ≤ 64
     → w ≡ writeOf (u .executed) → g ≡ cond (w .writes) (set (u .registers) (w .at .0) (w .value)) (u .registers)
     → v ≡ sourcesOf (u .fetched)
-    → l ≡ advancedOf (u .program .n) (inFlightOf u) w (readAt v g) (getD (u .program .words) (u .count .0 % 64) 0)
+    → l ≡ advancedOf (u .program .edition) (u .program .n) (inFlightOf u) w (readAt v g) (getD (u .program .words) (u .count .0 % 64) 0)
     → unitWith u 1 g l ≡ cycleOf u
 unfolding cycleOf
 turn u {g = g} few ew eg ev el =
@@ -62,9 +62,9 @@ pub record Small (z : IfId) : Type 0 where
   pub third : sourcesOf z .third .0 < 32
   pub target : targetIn z < 32
 
-small-word : (w : ℕ) → Small (IF/ID.Holds (instructionOf w))
+small-word : (edition : Edition) (w : ℕ) → Small (IF/ID.Holds (instructionOf edition w))
 unfolding firstOf targetOf
-small-word w = record { first = first (isLi w); second = omega arith; third = omega arith; target = target (isNop w) }
+small-word edition w = record { first = first (isLi w); second = omega arith; third = omega arith; target = target (isNop w || isWired edition (rdOf w)) }
   where
     first : (t : Bool) → cond t (rdOf w) (rs1Of w) .0 < 32
     first true = omega arith
@@ -82,7 +82,7 @@ small-fetched p zero = small-none
 small-fetched p (suc k) = go (ltb k (p .n .0))
   where
     go : (t : Bool) → Small (cond t (IF/ID.Holds (instructionAt p k)) IF/ID.Empty)
-    go true = small-word (getD (p .words) k 0)
+    go true = small-word (p .edition) (getD (p .words) k 0)
     go false = small-none
 
 -- where WB writes, by the instruction that it holds

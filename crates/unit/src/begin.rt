@@ -2,13 +2,17 @@
 
 ghost use Prim.Native.Nat.{_≤_};
 ghost use mathlib.Core.Path.{_≡_};
-ghost use Rattle.job_rules.specs.Layout.{instructionsAt};
+ghost use Rattle.register.specs.Layout.{zeroRegister};
+ghost use Rattle.plain_rules.specs.Machine.{clearedFor};
 ghost use Rattle.job_rules.specs.Read.{readOf};
 ghost use Rattle.unit_rules.specs.Calls.{begunOf, registersSet, freshOf, loadedBy, loadOf, goOf};
 use job_rules::Program;
 use register::Register;
 use table::Count;
+use table::Edition;
+use table::Pointer;
 use table::refusal;
+use table::writes;
 use unit_record::is_drained;
 use unit_record::well_made;
 use unit_rules::ExWb;
@@ -40,15 +44,24 @@ pub fn fresh() -> Unit
 {
     let zero = Register::ZERO;
     let words = [0u32; 64];
-    let program = Program { words, n: Count(0) };
+    let program = Program {
+        words,
+        n: Count(0),
+        edition: Edition::One,
+    };
     let registers = [zero; 32];
     begun(false, program, registers)
 }
 
-// Registers 0 to r - 1 from the file; the others stay.
-fn set_registers(from: [Register; 32], r: usize, old: [Register; 32]) -> [Register; 32]
+// Registers 0 to r - 1 from the file; the others stay. Then register 0 is cleared where the edition wires it.
+fn set_registers(
+    edition: Edition,
+    from: [Register; 32],
+    r: usize,
+    old: [Register; 32],
+) -> [Register; 32]
     requires { ⌜ r ≤ 32 ⌝ }
-    ensures { λ f. ⌜ f ≡ registersSet r from old ⌝ }
+    ensures { λ f. ⌜ f ≡ clearedFor edition zeroRegister (registersSet r from old) ⌝ }
 {
     let mut registers = old;
     let mut i = 0;
@@ -57,12 +70,16 @@ fn set_registers(from: [Register; 32], r: usize, old: [Register; 32]) -> [Regist
         registers[i] = register;
         i += 1;
     }
+    if writes::is_wired(edition, Pointer(0)) {
+        registers[0] = Register::ZERO;
+        return registers;
+    }
     registers
 }
 
-// Loads the job of a file on any unit: refused with 1 to 6, the first that holds.
+// Loads the job of a file on any unit: refused with 1 to 6, 14 or 15, the first that holds.
 fn load_file(u: Unit, file: &[u8]) -> Loaded
-    ensures { λ r. ⌜ r ≡ loadedBy (readOf instructionsAt (now (file .entry))) u ⌝ }
+    ensures { λ r. ⌜ r ≡ loadedBy (readOf (now (file .entry))) u ⌝ }
 {
     let read = job_reader::read_job(file);
     let number = read.refusal;
@@ -78,7 +95,8 @@ fn load_file(u: Unit, file: &[u8]) -> Loaded
     let old = u.registers;
     let from = job.registers;
     let program = job.program;
-    let registers = set_registers(from, job.r, old);
+    let edition = program.edition;
+    let registers = set_registers(edition, from, job.r, old);
     let unit = begun(false, program, registers);
     Loaded {
         refusal: number,
@@ -87,7 +105,7 @@ fn load_file(u: Unit, file: &[u8]) -> Loaded
     }
 }
 
-// Loads the job of a file. Refused with 10, with 18 where a run is in progress, then with 1 to 6; and then the unit is as it was given, and a run in progress
+// Loads the job of a file. Refused with 10, with 18 where a run is in progress, then with 1 to 6, 14 or 15; and then the unit is as it was given, and a run in progress
 // goes on as before.
 pub fn load(u: Unit, file: &[u8]) -> Loaded
     ensures { λ r. ⌜ r ≡ loadOf (now (file .entry)) u ⌝ }

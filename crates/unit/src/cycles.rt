@@ -51,6 +51,8 @@ pub(crate) fn one_by_one(u: Unit, m: u32) -> Unit
 {
     let words = u.program.words;
     let n = u.program.n;
+    let program = u.program;
+    let edition = program.edition;
     let mut registers = u.registers;
     let mut count = u.count;
     let mut fetched = u.fetched;
@@ -77,7 +79,7 @@ pub(crate) fn one_by_one(u: Unit, m: u32) -> Unit
         };
         let here = (count.0 % 64) as usize;
         decoded = decode::decoded(fetched, read);
-        fetched = fetch::delivered(n, count, words[here]);
+        fetched = fetch::delivered(edition, n, count, words[here]);
         count = fetch::next_count(n, count);
     }
     reassembled(u, m, registers, count, fetched, decoded, executed)

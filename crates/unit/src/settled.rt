@@ -13,6 +13,7 @@ use crate::cycles::reassembled;
 use plain::lines::execute_lines;
 use register::Register;
 use table::Count;
+use table::Edition;
 use unit_record::fetched_in;
 use unit_record::numbers::count_at;
 use unit_record::numbers::cycles_before;
@@ -43,15 +44,21 @@ fn read_for(latch: IfId, registers: [Register; 32]) -> Operands
 }
 
 // Count and latches at cycle c of a program, where the registers tell the values.
-fn flight_at(words: &[u32], n: Count, c: u32, registers: [Register; 32]) -> InFlight
-    ensures { λ r. ⌜ r ≡ settledFlight (record { words = now (words .entry); n = n }) c registers ⌝ }
+fn flight_at(
+    edition: Edition,
+    words: &[u32],
+    n: Count,
+    c: u32,
+    registers: [Register; 32],
+) -> InFlight
+    ensures { λ r. ⌜ r ≡ settledFlight (record { words = now (words .entry); n = n; edition = edition }) c registers ⌝ }
 {
-    let decoding = fetched_in(words, n, cycles_before(c, 1));
-    let executing = fetched_in(words, n, cycles_before(c, 2));
+    let decoding = fetched_in(edition, words, n, cycles_before(c, 1));
+    let executing = fetched_in(edition, words, n, cycles_before(c, 2));
     let latched = decoded(executing, read_for(executing, registers));
     InFlight {
         count: count_at(n, c),
-        fetched: fetched_in(words, n, c),
+        fetched: fetched_in(edition, words, n, c),
         decoded: decoded(decoding, read_for(decoding, registers)),
         executed: executed(written(ExWb::Empty), latched),
     }
@@ -64,12 +71,14 @@ fn by_lines(u: Unit, m: u32) -> Unit
 {
     let words = u.program.words;
     let n = u.program.n;
+    let program = u.program;
+    let edition = program.edition;
     let old = u.registers;
     let c = u.cycle + m;
     let start = cycles_before(u.cycle, 3) as usize;
     let end = cycles_before(c, 3) as usize;
-    let registers = execute_lines(&words[start..end], old);
-    let flight = flight_at(&words, n, c, registers);
+    let registers = execute_lines(edition, &words[start..end], old);
+    let flight = flight_at(edition, &words, n, c, registers);
     let count = flight.count;
     let fetched = flight.fetched;
     let decoded = flight.decoded;

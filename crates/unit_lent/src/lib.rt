@@ -20,8 +20,8 @@ pub struct RunAnswer {
     pub made: u32,
 }
 
-// Loads the job of a file on the unit: 0, 10 where the record is not well made, 18 where a run is in progress, or 1 to 6, the first that holds, and with 6 the place of
-// the first bad word.
+// Loads the job of a file on the unit: 0, 10 where the record is not well made, 18 where a run is in progress, or 1 to 6, 14 or 15, the first that holds, and with 6
+// the place of the first bad word.
 pub fn load(u: &mut Unit, file: &[u8]) -> LoadAnswer
     ensures { λ r. ⌜ loadedWith r (now (u .exit)) ≡ loadOf (now (file .entry)) (now (u .entry)) ⌝ }
 {

@@ -1,6 +1,7 @@
 -- The tests of a record's numbers in their order, each as it came out. Carried by rewriting with each test.
 -- Assumes nothing.
-use Rattle.unit_rules.proofs.Shared.{ℕ, _<_, _≤_, min, _≡_, sym, ap, _∙_, false, List, map, map-id, arith, length, le-leb, lt-leb, leb, eqb, firstBad, linesOf, lastOf, programMade, numbersMade}
+use Rattle.unit_rules.proofs.Shared.{ℕ, _<_, _≤_, min, _≡_, sym, ap, _∙_, false, List, map, map-id, arith, length, le-leb, lt-leb, leb, eqb, firstBad, linesOf, lastOf, programMade, numbersMade, length-take}
+use Rattle.unit_rules.proofs.Loading.{bad-at-most}
 use Rattle.table.specs.declared.Count.{Count}
 use Rattle.job_rules.specs.declared.Program.{Program}
 
@@ -11,6 +12,12 @@ within l i n e h = let f : length l ≡ n = sym (ap length (map-id l)) ∙ e in 
 module _ (program : Program) where
   pub too-many-lines : 64 < program .n .0 → false ≡ programMade program
   too-many-lines h = rw (lt-leb _ _ h)
+
+  pub too-few-words : program .n .0 ≤ 64 → length (program .words) < program .n .0 → false ≡ programMade program
+  too-few-words few h =
+      let none = lt-leb (program .n .0) (firstBad (linesOf program))
+      (omega (arith, bad-at-most (linesOf program), length-take (program .n .0) (program .words))) in
+      rw (le-leb _ _ few, none)
 
   pub words-decide : program .n .0 ≤ 64 → {bad : ℕ} → bad ≡ firstBad (linesOf program) → leb (program .n .0) bad ≡ programMade program
   words-decide few first = rw (le-leb _ _ few, ← first)

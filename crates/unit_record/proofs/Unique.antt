@@ -44,7 +44,7 @@ cycles-before-unique = by-value (λ κs a. no-requires) (λ κs a v w. refl)
 pub count-at-unique : Determined 0 count-at-kinds.ps count-at-kinds.r count-at-reads.requires count-at-reads.Post
 count-at-unique = by-value (λ κs a. no-requires) (λ κs a v w. refl)
 
-pub program-made-unique : Determined 0 program-made-kinds.ps program-made-kinds.r program-made-reads.requires program-made-reads.Post
+pub program-made-unique : Determined 1 program-made-kinds.ps program-made-kinds.r program-made-reads.requires program-made-reads.Post
 program-made-unique = by-value (λ κs a. no-requires) (λ κs a v w. refl)
 
 pub numbers-made-unique : Determined 0 numbers-made-kinds.ps numbers-made-kinds.r numbers-made-reads.requires numbers-made-reads.Post

@@ -1,9 +1,10 @@
 -- The tests of a record in their order, each as it came out. Carried by rewriting with each test.
 -- Assumes nothing.
 use Rattle.unit_rules.proofs.Shared.{ℕ, zero, suc, _-_, _<_, _≤_, _≡_, refl, Bool, true, false, List, arith, lt-ltb}
-use Rattle.unit_rules.proofs.Shared.{le-ltb, le-leb, lt-leb, eq-eqb, ne-eqb, getD, instructionOf, inDecoded, inExecuted, isEmpty, allEmpty}
+use Rattle.unit_rules.proofs.Shared.{le-ltb, le-leb, lt-leb, eq-eqb, ne-eqb, getD, zeroRegister, mayHold, instructionOf, inDecoded, inExecuted, isEmpty, allEmpty}
 use Rattle.unit_rules.proofs.Shared.{drainedOf, afterIF, fetchedIn, sameHeld, latchesMade, programMade, numbersMade, runMade, restMade, wellMadeOf}
 use Rattle.table.specs.declared.Count.{Count}
+use Rattle.table.specs.declared.Edition.{Edition}
 use Rattle.job_rules.specs.declared.Program.{Program}
 use Rattle.unit_rules.specs.declared.Instruction.{Instruction}
 use Rattle.unit_rules.specs.declared.IfId.{IfId}
@@ -12,9 +13,9 @@ use Rattle.unit_rules.specs.declared.Unit.{Unit}
 
 -- ---- what is fetched in a cycle
 
-module _ (words : List ℕ) (n : Count) (c : ℕ) where
+module _ (edition : Edition) (words : List ℕ) (n : Count) (c : ℕ) where
   abbrev program : Program
-  program = record { words = words; n = n }
+  program = record { words = words; n = n; edition = edition }
 
   begun : (k : ℕ) → (k ≡ 0 → ⊥) → fetchedIn program k ≡ afterIF program (k - 1)
   begun zero h = absurd (h refl)
@@ -23,7 +24,7 @@ module _ (words : List ℕ) (n : Count) (c : ℕ) where
   pub past-the-end : (c ≡ 0 → ⊥) → n .0 ≤ c - 1 → IF/ID.Empty ≡ fetchedIn program c
   past-the-end some h = rw (begun c some, le-ltb _ _ h)
 
-  pub at-a-line : (c ≡ 0 → ⊥) → c - 1 < n .0 → {w : ℕ} → w ≡ getD words (c - 1) 0 → {i : Instruction} → i ≡ instructionOf w → IF/ID.Holds i ≡ fetchedIn program c
+  pub at-a-line : (c ≡ 0 → ⊥) → c - 1 < n .0 → {w : ℕ} → w ≡ getD words (c - 1) 0 → {i : Instruction} → i ≡ instructionOf edition w → IF/ID.Holds i ≡ fetchedIn program c
   at-a-line some h word e = rw (e, word, begun c some, lt-ltb _ _ h)
 
 -- ---- three latches against what they should hold
@@ -77,14 +78,19 @@ module _ (u : Unit) {t : Bool} (program : t ≡ programMade (u .program)) where
   unfolding wellMadeOf
   other-program h = rw (← program, h)
 
-  module _ (good : t ≡ true) {d e : IfId} (decoded : d ≡ inDecoded (u .decoded)) (executed : e ≡ inExecuted (u .executed)) {s : Bool} where
-    pub run-decides : u .gone ≡ true → s ≡ runMade (u .program) (u .count .0) (u .cycle) (u .fetched) d e → s ≡ wellMadeOf u
+  module _ (good : t ≡ true) {b : Bool} (first : b ≡ mayHold (u .program .edition) (getD (u .registers) 0 zeroRegister)) where
+    pub other-register : b ≡ false → false ≡ wellMadeOf u
     unfolding wellMadeOf
-    run-decides went o = rw (← program, good, went, ← decoded, ← executed) o
+    other-register h = rw (← program, good, ← first, h)
 
-    pub rest-decides : u .gone ≡ false → s ≡ restMade (u .count .0) (u .cycle) (u .fetched) d e → s ≡ wellMadeOf u
-    unfolding wellMadeOf
-    rest-decides still o = rw (← program, good, still, ← decoded, ← executed) o
+    module _ (held : b ≡ true) {d e : IfId} (decoded : d ≡ inDecoded (u .decoded)) (executed : e ≡ inExecuted (u .executed)) {s : Bool} where
+      pub run-decides : u .gone ≡ true → s ≡ runMade (u .program) (u .count .0) (u .cycle) (u .fetched) d e → s ≡ wellMadeOf u
+      unfolding wellMadeOf
+      run-decides went o = rw (← program, good, ← first, held, went, ← decoded, ← executed) o
+
+      pub rest-decides : u .gone ≡ false → s ≡ restMade (u .count .0) (u .cycle) (u .fetched) d e → s ≡ wellMadeOf u
+      unfolding wellMadeOf
+      rest-decides still o = rw (← program, good, ← first, held, still, ← decoded, ← executed) o
 
 -- ---- drained
 

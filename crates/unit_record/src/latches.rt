@@ -3,6 +3,7 @@
 ghost use mathlib.Core.Path.{_≡_};
 ghost use Rattle.unit_rules.specs.Cycle.{instructionOf};
 ghost use Rattle.unit_rules.specs.Record.{inDecoded, inExecuted, isEmpty, sameTarget, sameInstruction, sameHeld};
+use table::Edition;
 use table::Target;
 use table::fields;
 use table::writes;
@@ -11,16 +12,16 @@ use unit_rules::IdEx;
 use unit_rules::IfId;
 use unit_rules::Instruction;
 
-// The instruction of a word, as it goes through the latches.
-pub fn instruction(word: u32) -> Instruction
-    ensures { λ r. ⌜ r ≡ instructionOf word ⌝ }
+// The instruction of a word on a card of this edition, as it goes through the latches.
+pub fn instruction(edition: Edition, word: u32) -> Instruction
+    ensures { λ r. ⌜ r ≡ instructionOf edition word ⌝ }
 {
     Instruction {
         word: word,
         first: fields::first(word),
         second: fields::rs2(word),
         third: fields::rs3(word),
-        target: writes::target_of(word),
+        target: writes::target_of(edition, word),
     }
 }
 

@@ -16,7 +16,9 @@ use crate::latches::same_held;
 use crate::numbers::cycles_before;
 use crate::numbers::numbers_made;
 use crate::numbers::program_made;
+use job_layout::may_hold;
 use table::Count;
+use table::Edition;
 use unit_rules::IfId;
 use unit_rules::Unit;
 
@@ -31,20 +33,21 @@ fn word_at(words: &[u32], line: usize) -> u32
 }
 
 // What IF delivers in cycle c, counted from 1 at the go: line c - 1, or nothing outside 0 .. n - 1.
-pub fn fetched_in(words: &[u32], n: Count, c: u32) -> IfId
-    ensures { λ r. ⌜ r ≡ fetchedIn (record { words = now (words .entry); n = n }) c ⌝ }
+pub fn fetched_in(edition: Edition, words: &[u32], n: Count, c: u32) -> IfId
+    ensures { λ r. ⌜ r ≡ fetchedIn (record { words = now (words .entry); n = n; edition = edition }) c ⌝ }
 {
     if c == 0 {
         return IfId::Empty;
     }
     let line = (c - 1) as usize;
     if line < n.0 as usize {
-        return IfId::Holds(instruction(word_at(words, line)));
+        return IfId::Holds(instruction(edition, word_at(words, line)));
     }
     IfId::Empty
 }
 
 fn latches_made(
+    edition: Edition,
     words: &[u32],
     n: Count,
     c: u32,
@@ -52,11 +55,11 @@ fn latches_made(
     decoded: IfId,
     executed: IfId,
 ) -> bool
-    ensures { λ r. ⌜ r ≡ latchesMade (record { words = now (words .entry); n = n }) c fetched decoded executed ⌝ }
+    ensures { λ r. ⌜ r ≡ latchesMade (record { words = now (words .entry); n = n; edition = edition }) c fetched decoded executed ⌝ }
 {
-    if same_held(fetched, fetched_in(words, n, c)) {
-        if same_held(decoded, fetched_in(words, n, cycles_before(c, 1))) {
-            return same_held(executed, fetched_in(words, n, cycles_before(c, 2)));
+    if same_held(fetched, fetched_in(edition, words, n, c)) {
+        if same_held(decoded, fetched_in(edition, words, n, cycles_before(c, 1))) {
+            return same_held(executed, fetched_in(edition, words, n, cycles_before(c, 2)));
         }
     }
     false
@@ -76,6 +79,7 @@ fn all_empty(fetched: IfId, decoded: IfId, executed: IfId) -> bool
 
 // Whether count, cycle number and latches are those of a unit that has gone.
 fn run_made(
+    edition: Edition,
     words: &[u32],
     n: Count,
     count: Count,
@@ -84,10 +88,10 @@ fn run_made(
     decoded: IfId,
     executed: IfId,
 ) -> bool
-    ensures { λ r. ⌜ r ≡ runMade (record { words = now (words .entry); n = n }) (count .0) c fetched decoded executed ⌝ }
+    ensures { λ r. ⌜ r ≡ runMade (record { words = now (words .entry); n = n; edition = edition }) (count .0) c fetched decoded executed ⌝ }
 {
     if numbers_made(n, count, c) {
-        return latches_made(words, n, c, fetched, decoded, executed);
+        return latches_made(edition, words, n, c, fetched, decoded, executed);
     }
     false
 }
@@ -108,22 +112,35 @@ fn rest_made(count: Count, c: u32, fetched: IfId, decoded: IfId, executed: IfId)
 pub fn well_made(u: Unit) -> bool
     ensures { λ r. ⌜ r ≡ wellMadeOf u ⌝ }
 {
-    let program = u.program;
-    if program_made(program) {
-        let count = u.count;
-        let fetched = u.fetched;
-        let latch = u.decoded;
-        let decoded = in_decoded(latch);
-        let behind = u.executed;
-        let executed = in_executed(behind);
-        if u.gone {
-            let words = u.program.words;
-            let n = u.program.n;
-            return run_made(&words, n, count, u.cycle, fetched, decoded, executed);
-        }
-        return rest_made(count, u.cycle, fetched, decoded, executed);
+    let words = u.program.words;
+    let n = u.program.n;
+    if !program_made(&words, n) {
+        return false;
     }
-    false
+    let program = u.program;
+    let edition = program.edition;
+    if !may_hold(edition, u.registers[0]) {
+        return false;
+    }
+    let count = u.count;
+    let fetched = u.fetched;
+    let latch = u.decoded;
+    let decoded = in_decoded(latch);
+    let behind = u.executed;
+    let executed = in_executed(behind);
+    if u.gone {
+        return run_made(
+            edition,
+            &words,
+            n,
+            count,
+            u.cycle,
+            fetched,
+            decoded,
+            executed,
+        );
+    }
+    rest_made(count, u.cycle, fetched, decoded, executed)
 }
 
 // Whether a unit is drained, of any record whatsoever.

@@ -2,8 +2,8 @@
 
 ghost use Prim.Native.Nat.{_-_, min};
 ghost use mathlib.Core.Path.{_≡_};
+ghost use Rattle.table.specs.declared.Edition.the-variants.{One};
 ghost use Rattle.unit_rules.specs.Record.{lastOf, programMade, numbersMade};
-use job_rules::Program;
 use table::Count;
 use table::refusal;
 
@@ -47,13 +47,15 @@ pub fn count_at(n: Count, c: u32) -> Count
     n
 }
 
-// Whether n and the words are those of a well-made record.
-pub fn program_made(program: Program) -> bool
-    ensures { λ r. ⌜ r ≡ programMade program ⌝ }
+// Whether n and the words are those of a well-made record. The edition has no part in it: in the contract the first stands for either.
+pub fn program_made(words: &[u32], n: Count) -> bool
+    ensures { λ r. ⌜ r ≡ programMade (record { words = now (words .entry); n = n; edition = One }) ⌝ }
 {
-    let words = program.words;
-    let lines = program.n.0 as usize;
+    let lines = n.0 as usize;
     if lines > 64 {
+        return false;
+    }
+    if words.len() < lines {
         return false;
     }
     refusal::first_bad(&words[..lines]) >= lines

@@ -6,13 +6,14 @@ use mathlib.Core.Bool.{true, false}
 use mathlib.Core.List.{[], _∷_, map}
 use lib.ListN.{replicate}
 use Rattle.register.specs.Layout.{zeroRegister}
+use Rattle.table.specs.declared.Edition.the-variants.{One}
 use Rattle.job_rules.specs.declared.Program.{Program}
 use Rattle.unit_rules.specs.Cycle.{countAfter, fetchedIn, cycleOf, cyclesOf}
 use Rattle.unit_rules.specs.Record.{isEmpty, drainedOf, lastOf}
 use Rattle.unit_rules.specs.Calls.{begunOf}
 
 abbrev oneLine : Program
-oneLine = record { words = 0 ∷ []; n = record { 0 = 1 } }
+oneLine = record { words = 0 ∷ []; n = record { 0 = 1 }; edition = One }
 
 -- "nothing is fetched twice, and unused lines are not li 0 into register 0": in cycle 1 something is fetched, and in no other
 pub fetched-once : map (λ (c : ℕ). isEmpty (fetchedIn oneLine c)) (0 ∷ 1 ∷ 2 ∷ 3 ∷ 4 ∷ []) ≡ (true ∷ false ∷ true ∷ true ∷ true ∷ [])

@@ -1,11 +1,11 @@
 -- The unit as a pipeline, cycle by cycle. Carried by `outcome-gated`: an operand that the table says is not read has no effect, so it does not matter that nothing
 -- is forwarded to it.
 -- Assumes nothing.
-use Rattle.unit_rules.proofs.Shared.{ℕ, zero, suc, _+_, _≤_, _<_, _≡_, refl, sym, ap, _∙_, Bool, true, false, cond, _&&_, List}
+use Rattle.unit_rules.proofs.Shared.{ℕ, zero, suc, _+_, _≤_, _<_, _≡_, refl, sym, ap, _∙_, Bool, true, false, cond, _&&_, _||_, List}
 use Rattle.unit_rules.proofs.Shared.{arith, eqb-true, eqb-false, eqb, ltb, getD, set, length-set}
 use Rattle.unit_rules.proofs.Shared.{getD-set-same, getD-set-other, Register, zeroRegister}
 use Rattle.unit_rules.proofs.Shared.{Pointer, Target, None, To, rdOf, operationOf, readsOf, takesFirst, takesSecond}
-use Rattle.unit_rules.proofs.Shared.{takesThird, isNop, targetOf, stored, IfId}
+use Rattle.unit_rules.proofs.Shared.{takesThird, isNop, isWired, targetOf, stored, IfId, Edition}
 use Rattle.unit_rules.proofs.Shared.{IdEx, ExWb, Program, Unit, instructionAt, fetchedIn, given, afterWB, isTarget, newestOperands, operandsIn}
 use Rattle.unit_rules.proofs.Shared.{afterEX, afterID, afterIF, cycleOf, cyclesOf, inFlightOf, Whole}
 use Rattle.unit_rules.proofs.Shared.IF/ID
@@ -43,9 +43,9 @@ InFile (To d) = d .0 < 32
 abbrev pub Storable : Instruction → Type 0
 Storable i = InFile (i .target)
 
-pub target-in-file : (w : ℕ) → InFile (targetOf w)
+pub target-in-file : (edition : Edition) (w : ℕ) → InFile (targetOf edition w)
 unfolding targetOf
-target-in-file w = go (isNop w)
+target-in-file edition w = go (isNop w || isWired edition (rdOf w))
   where
     go : (t : Bool) → InFile (cond t None (To (rdOf w)))
     go true = omega arith
@@ -180,5 +180,5 @@ good-fetched p zero = tt
 good-fetched p (suc k) = go (ltb k (p .n .0))
   where
     go : (t : Bool) → GoodIn machine Storable (slotOf (cond t (IF/ID.Holds (instructionAt p k)) IF/ID.Empty))
-    go true = target-in-file (getD (p .words) k 0)
+    go true = target-in-file (p .edition) (getD (p .words) k 0)
     go false = tt

@@ -3,7 +3,7 @@
 -- Assumes nothing.
 use Rattle.unit_rules.proofs.Shared.{ℕ, zero, suc, _+_, _-_, _≤_, _<_, min, _≡_, refl, sym, ap, _∙_, Bool, true, false, List, []}
 use Rattle.unit_rules.proofs.Shared.{_∷_, add-zero, arith, eqb-true, eqb-false, lt-leb, le-leb, leb-true, leb-false, eqb, leb, DRAINED}
-use Rattle.unit_rules.proofs.Shared.{instructionsAt, readOf, Unit, Cycled, Ran, cyclesOf, drainedOf, wellMadeOf, lastOf, loadOf, goOf, cycledOf}
+use Rattle.unit_rules.proofs.Shared.{readOf, Unit, Cycled, Ran, cyclesOf, drainedOf, wellMadeOf, lastOf, loadOf, goOf, cycledOf}
 use Rattle.unit_rules.proofs.Shared.{ranOf, goesOn, afterCalls, Call, unitAfter, madeUnless, cyclesIn, renews, unitAfterAll, cyclesInAll, renewsInAll}
 use Rattle.table.proofs.Decided.{stops, passes, ends, not-denied, neither-held}
 use Rattle.unit_rules.specs.declared.Loaded.{Loaded}
@@ -151,7 +151,7 @@ module _ (u : Unit) (made : wellMadeOf u ≡ true) where
       case true q =
           let t = load-taken file u (eqb-true (loadOf file u .refusal) 0 q) in
           let set = ap (λ (a : Loaded). a .unit) (load-sets file u t) in
-          ap wellMadeOf set ∙ well-made-test _ (loaded-made (readOf instructionsAt file .job) u (sound-read file (t .good)))
+          ap wellMadeOf set ∙ well-made-test _ (loaded-made (readOf file .job) u (sound-read file (t .good)))
       case false q = ap wellMadeOf (load-refused file u (eqb-false (loadOf file u .refusal) 0 q)) ∙ made
 
   after-others : (x : Call) → renews x u ≡ false → wellMadeOf (unitAfter x u) ≡ true

@@ -5,9 +5,10 @@ use Rattle.unit_rules.proofs.Shared.{ℕ, suc, _+_, _-_, _≤_, _<_, mi
 use Rattle.unit_rules.proofs.Shared.{le-refl, arith, lt-ltb, eqb-true, leb-true, leb-false, eqb, leb, getD, take, length, getD-take, take-all}
 use Rattle.unit_rules.proofs.Shared.EX/WB
 use Rattle.unit_rules.proofs.Shared.{length-take-le, Register, zeroRegister, rowOf, DRAINED, STATE, BUSY, plain, plainRows, registers-as-rows, Job}
-use Rattle.unit_rules.proofs.Shared.{instructionsAt, readOf, Program, linesOf, Unit, instructionAt, afterEX, afterID, fetchedIn, Cycled, cyclesOf, inDecoded, inExecuted, drainedOf, lastOf}
+use Rattle.unit_rules.proofs.Shared.{readOf, Program, linesOf, Unit, instructionAt, afterEX, afterID, fetchedIn, Cycled, cyclesOf, inDecoded, inExecuted, drainedOf, lastOf}
 use Rattle.unit_rules.proofs.Shared.{wellMadeOf, begunOf, goneOf, registersSet, loadOf, goOf, cycledOf, ranOf, askedDrained, Whole, afterCalls}
-use Rattle.unit_rules.proofs.Shared.{Call, unitAfterAll, cyclesInAll, renewsInAll, unitWith}
+use Rattle.unit_rules.proofs.Shared.{Call, unitAfterAll, cyclesInAll, renewsInAll, unitWith, Edition, One, Two, isWired, registersLoaded, false≢true}
+use Rattle.job_rules.proofs.Theorems.{register-0-read}
 use Rattle.plain_rules.specs.declared.ExecutedProgram.{ExecutedProgram}
 use Rattle.plain_rules.specs.Machine.{outcomeOn, marksRows}
 use Rattle.plain_rules.specs.Answer.{answerOf, noMarks, executeAllOf}
@@ -23,8 +24,9 @@ use Rattle.unit_rules.specs.Cycle.{markIn}
 use Rattle.unit_rules.specs.Settled.{settledFlight}
 use Rattle.unit_rules.proofs.Positions.{drained-after, drained-loaded, cycles-program, cycles-number, cycles-gone}
 use Rattle.unit_rules.proofs.Settled.{id-told, ex-told}
+use Rattle.unit_rules.proofs.Wired.{cleared-already}
 use Rattle.unit_rules.proofs.WellMade.{WellMade, well-made-says, well-made-test, well-made-cycles, cycles-join, leftOf}
-use Rattle.unit_rules.proofs.Loading.{Sound, sound-read, load-ill-made, load-busy, load-reads, load-taken, load-sets, load-refused, go-begins, go-ill-made, left-as-they-were, set-whole, set-from-file, loaded-made, plain-whole, well-made-gone, enough-words, unit-gone}
+use Rattle.unit_rules.proofs.Loading.{Sound, sound-read, load-ill-made, load-busy, load-reads, load-taken, load-sets, load-refused, go-begins, go-ill-made, left-as-they-were, loaded-whole, set-from-file, cleared-others, cleared-zero, loaded-made, plain-whole, well-made-gone, enough-words, unit-gone}
 use Rattle.unit_rules.proofs.Calls.{next-call, no-call, calls-are-cycles, ran, cycle-of-drained, run-of-drained, rests-on, all-made, well-made-after, kept-made}
 
 -- ---- a go
@@ -96,13 +98,13 @@ module _ (u : Unit) (whole : Whole (u .registers)) (made : wellMadeOf u ≡ true
   -- After c cycles the whole unit: its registers are what the plain machine leaves after the first c - 3 words, beginning from the registers as they stood at the
   -- go; program, c and these registers tell count and latches, with the values that are latched; the rest is as the go left it.
   pub demand3-unit : (c : ℕ) → c ≤ lastOf n
-      → (let g = plain (take (c - 3) lines) (u .registers) in afterCalls c gone ≡ unitWith gone c g (settledFlight (u .program) c g))
+      → (let g = plain (u .program .edition) (take (c - 3) lines) (u .registers) in afterCalls c gone ≡ unitWith gone c g (settledFlight (u .program) c g))
   demand3-unit c h =
-      let g = plain (take (c - 3) lines) (u .registers) in
+      let g = plain (u .program .edition) (take (c - 3) lines) (u .registers) in
       are-cycles c h ∙ unit-gone u whole before c ∙ ap (λ (v : Unit). unitWith v c g (settledFlight (u .program) c g)) (sym is-begun)
 
   -- So the registers are these.
-  pub demand3-registers : (c : ℕ) → c ≤ lastOf n → afterCalls c gone .registers ≡ plain (take (c - 3) lines) (u .registers)
+  pub demand3-registers : (c : ℕ) → c ≤ lastOf n → afterCalls c gone .registers ≡ plain (u .program .edition) (take (c - 3) lines) (u .registers)
   demand3-registers c h = ap (λ (v : Unit). v .registers) (demand3-unit c h)
 
   -- Drained exactly at n + 3 cycles, or at once with n = 0, and never sooner.
@@ -129,7 +131,7 @@ module _ (u : Unit) (whole : Whole (u .registers)) (made : wellMadeOf u ≡ true
       × (inExecuted (afterCalls c gone .executed) ≡ fetchedIn (u .program) (c - 2))
   demand3-latches c h =
       let e = demand3-unit c h in
-      let g = plain (take (c - 3) lines) (u .registers) in (
+      let g = plain (u .program .edition) (take (c - 3) lines) (u .registers) in (
         ap (λ (v : Unit). v .fetched) e,
         ap (λ (v : Unit). inDecoded (v .decoded)) e ∙ id-told (u .program) c g,
         ap (λ (v : Unit). inExecuted (v .executed)) e ∙ ex-told (u .program) c g,
@@ -164,7 +166,7 @@ module _ (u : Unit) (whole : Whole (u .registers)) (made : wellMadeOf u ≡ true
       → (let c = cyclesInAll calls gone in
       (c ≤ lastOf n)
       × (unitAfterAll calls gone ≡ afterCalls c gone)
-      × (unitAfterAll calls gone .registers ≡ plain (take (c - 3) lines) (u .registers))
+      × (unitAfterAll calls gone .registers ≡ plain (u .program .edition) (take (c - 3) lines) (u .registers))
       × (drainedOf (unitAfterAll calls gone) ≡ leb (lastOf n) c))
   demand3-until-the-next-go-or-load calls none =
       let c = cyclesInAll calls gone in
@@ -185,52 +187,58 @@ module _ (u : Unit) (whole : Whole (u .registers)) (made : wellMadeOf u ≡ true
       ∙ sym (demand3-until-the-next-go-or-load others none-here .1)
 
   -- As rows they are the rows of crate `plain`.
-  pub demand3-rows : (c : ℕ) → c ≤ lastOf n → map rowOf (afterCalls c gone .registers) ≡ plainRows (take (c - 3) lines) (map rowOf (u .registers))
-  demand3-rows c h = ap (map rowOf) (demand3-registers c h) ∙ registers-as-rows (take (c - 3) lines) (u .registers)
+  pub demand3-rows : (c : ℕ) → c ≤ lastOf n → map rowOf (afterCalls c gone .registers) ≡ plainRows (u .program .edition) (take (c - 3) lines) (map rowOf (u .registers))
+  demand3-rows c h = ap (map rowOf) (demand3-registers c h) ∙ registers-as-rows (u .program .edition) (take (c - 3) lines) (u .registers)
 
   all-lines : length lines ≡ n
   all-lines = length-take-le n (u .program .words) (enough-words u before)
 
-  -- what crate `plain` answers for the whole program
+  -- what crate `plain` answers for the whole program, in the unit's edition: register 0 is cleared first, which changes nothing here
   abbrev answered : ExecutedProgram
-  answered = executeAllOf lines (map rowOf (u .registers))
+  answered = executeAllOf (u .program .edition) lines (map rowOf (u .registers))
 
-  is-answered : answered ≡ record { executed = answerOf 0 0 (plainRows lines (map rowOf (u .registers))); marks = marksRows lines (map rowOf (u .registers)) noMarks }
-  is-answered = executed lines (map rowOf (u .registers)) (omega (arith, all-lines, before .few)) (omega (arith, all-lines, before .good))
+  is-answered : answered ≡ record {
+    executed = answerOf 0 0 (plainRows (u .program .edition) lines (map rowOf (u .registers)));
+    marks = marksRows (u .program .edition) lines (map rowOf (u .registers)) noMarks;
+  }
+  is-answered =
+      executed (u .program .edition) lines (map rowOf (u .registers)) (omega (arith, all-lines, before .few)) (omega (arith, all-lines, before .good))
+      ∙ ap (λ (f : List (List ℕ)). record { executed = answerOf 0 0 (plainRows (u .program .edition) lines f); marks = marksRows (u .program .edition) lines f noMarks })
+      (cleared-already (u .program .edition) (u .registers) (before .held))
 
   -- Drained, they are what crate `plain` answers for the whole program.
   pub demand3-drained-rows : answered .executed ≡ answerOf 0 0 (map rowOf (afterCalls (lastOf n) gone .registers))
   demand3-drained-rows =
       ap (λ (a : ExecutedProgram). a .executed) is-answered
       ∙ ap (answerOf 0 0)
-      (ap (λ (p : List ℕ). plainRows p (map rowOf (u .registers))) (sym (take-all (lastOf n - 3) lines (omega (arith, all-lines, last-lines n))))
+      (ap (λ (p : List ℕ). plainRows (u .program .edition) p (map rowOf (u .registers))) (sym (take-all (lastOf n - 3) lines (omega (arith, all-lines, last-lines n))))
       ∙ sym (demand3-rows (lastOf n) (le-refl (lastOf n))))
 
   -- ---- what each line gives, value and mark
 
   -- After k + 3 cycles EX/WB holds line k, with what the plain machine makes of it on the registers that the lines before it leave.
   pub demand3-outcome : (k : ℕ) → k < n
-      → afterCalls (k + 3) gone .executed ≡ EX/WB.Holds (instructionAt (u .program) k) (outcomeOn (λ r. r) (λ r. r) zeroRegister (getD lines k 0) (plain (take k lines) (u .registers)))
+      → afterCalls (k + 3) gone .executed ≡ EX/WB.Holds (instructionAt (u .program) k) (outcomeOn (λ r. r) (λ r. r) zeroRegister (getD lines k 0) (plain (u .program .edition) (take k lines) (u .registers)))
   demand3-outcome k h =
       let c : k + 3 - 2 ≡ suc k = omega arith in
       let m : k + 3 - 3 ≡ k = omega arith in
       ap (λ (v : Unit). v .executed) (demand3-unit (k + 3) (in-time n k h))
-      ∙ (λ i. afterEX EX/WB.Empty (afterID (fetchedIn (u .program) (c i)) (plain (take (m i) lines) (u .registers))))
-      ∙ rw (lt-ltb k n h) (ap (λ (w : ℕ). EX/WB.Holds (instructionAt (u .program) k) (outcomeOn (λ r. r) (λ r. r) zeroRegister w (plain (take k lines) (u .registers)))) (sym (getD-take n (u .program .words) k 0 h)))
+      ∙ (λ i. afterEX EX/WB.Empty (afterID (fetchedIn (u .program) (c i)) (plain (u .program .edition) (take (m i) lines) (u .registers))))
+      ∙ rw (lt-ltb k n h) (ap (λ (w : ℕ). EX/WB.Holds (instructionAt (u .program) k) (outcomeOn (λ r. r) (λ r. r) zeroRegister w (plain (u .program .edition) (take k lines) (u .registers)))) (sym (getD-take n (u .program .words) k 0 h)))
 
   -- So its mark is the one that crate `plain` answers for that line.
   pub demand3-marks : (k : ℕ) → k < n → markIn (afterCalls (k + 3) gone .executed) ≡ getD (answered .marks) k 0
   demand3-marks k h =
       ap markIn (demand3-outcome k h)
       ∙ sym (ap (λ (a : ExecutedProgram). getD (a .marks) k 0) is-answered
-      ∙ ap (λ (l : List ℕ). getD l k 0) (marks-of-registers lines (u .registers) noMarks)
-      ∙ mark-of-line (λ r. r) (λ r. r) zeroRegister lines k (u .registers) noMarks (omega (arith, all-lines)) (omega (arith, before .few)))
+      ∙ ap (λ (l : List ℕ). getD l k 0) (marks-of-registers (u .program .edition) lines (u .registers) noMarks)
+      ∙ mark-of-line (λ r. r) (λ r. r) zeroRegister (u .program .edition) lines k (u .registers) noMarks (omega (arith, all-lines)) (omega (arith, before .few)))
 
 -- ---- a load
 
 -- A load is accepted exactly where the unit is well made and drained and the file is good.
 pub demand3-load-accepted : (file : List ℕ) (u : Unit)
-    → (loadOf file u .refusal ≡ 0) ↔ ((wellMadeOf u ≡ true) × (drainedOf u ≡ true) × (readOf instructionsAt file .refusal ≡ 0))
+    → (loadOf file u .refusal ≡ 0) ↔ ((wellMadeOf u ≡ true) × (drainedOf u ≡ true) × (readOf file .refusal ≡ 0))
 demand3-load-accepted file u = (
   λ e. let t = load-taken file u e in (t .made, t .done, t .good),
   λ t. ap (λ (a : Loaded). a .refusal) (load-sets file u (record { made = t .0; done = t .1; good = t .2 })),
@@ -241,7 +249,7 @@ pub demand3-load-answers : (file : List ℕ) (u : Unit)
     → (wellMadeOf u ≡ false → loadOf file u ≡ record { refusal = STATE; place = 0; unit = u })
     × (wellMadeOf u ≡ true → drainedOf u ≡ false → loadOf file u ≡ record { refusal = BUSY; place = 0; unit = u })
     × (wellMadeOf u ≡ true → drainedOf u ≡ true
-    → _≡_ {A = ℕ × ℕ} (loadOf file u .refusal, loadOf file u .place) (readOf instructionsAt file .refusal, readOf instructionsAt file .place))
+    → _≡_ {A = ℕ × ℕ} (loadOf file u .refusal, loadOf file u .place) (readOf file .refusal, readOf file .place))
 demand3-load-answers file u = (
   load-ill-made file u,
   load-busy file u,
@@ -257,8 +265,8 @@ pub demand3-no-leftover : (file : List ℕ) (u v : Unit) → loadOf file u .refu
     → loadOf file u ≡ loadOf file v
 demand3-no-leftover file u v taken taken-too same =
     load-sets file u (load-taken file u taken)
-    ∙ (λ i. let job = readOf instructionsAt file .job in
-    record { refusal = 0; place = 0; unit = begunOf false (job .program) (registersSet (job .r) (job .registers) (same i)) })
+    ∙ (λ i. let job = readOf file .job in
+    record { refusal = 0; place = 0; unit = begunOf false (job .program) (registersLoaded job (same i)) })
     ∙ sym (load-sets file v (load-taken file v taken-too))
 
 -- So after the same load both go through equal units, whatever is asked of them, with equal answers: any function of the unit is equal.
@@ -270,10 +278,10 @@ demand3-no-leftover-later answer file u v taken taken-too same calls =
 module _ (file : List ℕ) (u : Unit) (whole : Whole (u .registers)) (accepts : loadOf file u .refusal ≡ 0) where
   -- the job that the file holds; the registers as the load sets them; the unit then
   abbrev job : Job
-  job = readOf instructionsAt file .job
+  job = readOf file .job
 
   abbrev set : List Register
-  set = registersSet (job .r) (job .registers) (u .registers)
+  set = registersLoaded job (u .registers)
 
   abbrev loaded : Unit
   loaded = loadOf file u .unit
@@ -285,14 +293,31 @@ module _ (file : List ℕ) (u : Unit) (whole : Whole (u .registers)) (accepts : 
   pub demand3-loaded : loaded ≡ begunOf false (job .program) set
   demand3-loaded = ap (λ (a : Loaded). a .unit) (load-sets file u (load-taken file u accepts))
 
-  -- The registers as the load sets them: 0 .. r-1 from the file, the others as they were.
+  -- The registers as the load sets them: 0 .. r-1 from the file, the others as they were; and zero where the edition wires one, whether or not the file has it.
   pub demand3-set : (i : ℕ)
-      → (i < job .r → getD set i zeroRegister ≡ getD (job .registers) i zeroRegister) × (job .r ≤ i → getD set i zeroRegister ≡ getD (u .registers) i zeroRegister)
-  demand3-set i = (set-from-file (job .r) (job .registers) (u .registers) whole (sound .fewer) i, left-as-they-were (job .r) (job .registers) (u .registers) i)
+      → (i < job .r → getD set i zeroRegister ≡ getD (job .registers) i zeroRegister)
+      × (job .r ≤ i → isWired (job .program .edition) (record { 0 = i }) ≡ false → getD set i zeroRegister ≡ getD (u .registers) i zeroRegister)
+      × (isWired (job .program .edition) (record { 0 = i }) ≡ true → getD set i zeroRegister ≡ zeroRegister)
+  demand3-set i = (
+    λ h. from-file h (isWired (job .program .edition) (record { 0 = i })) refl,
+    λ h free. cleared-others (job .program .edition) set-first i free ∙ left-as-they-were (job .r) (job .registers) (u .registers) i h,
+    cleared-zero (job .program .edition) set-first i,
+  )
+    where
+      set-first : List Register
+      set-first = registersSet (job .r) (job .registers) (u .registers)
+
+      from-file : i < job .r → (t : Bool) → isWired (job .program .edition) (record { 0 = i }) ≡ t → getD set i zeroRegister ≡ getD (job .registers) i zeroRegister
+      from-file h true wired = cleared-zero (job .program .edition) set-first i wired ∙ sym (zero-in-file (job .program .edition) refl wired)
+        where
+          zero-in-file : (edition : Edition) → job .program .edition ≡ edition → isWired edition (record { 0 = i }) ≡ true → getD (job .registers) i zeroRegister ≡ zeroRegister
+          zero-in-file One e never = absurd (false≢true never)
+          zero-in-file Two e zeroth = rw (eqb-true i 0 zeroth) (register-0-read file (load-taken file u accepts .good) e)
+      from-file h false free = cleared-others (job .program .edition) set-first i free ∙ set-from-file (job .r) (job .registers) (u .registers) whole (sound .fewer) i h
 
   pub demand3-loaded-made : Whole (loaded .registers) × (wellMadeOf loaded ≡ true)
   demand3-loaded-made = (
-    ap (λ (v : Unit). length (v .registers)) demand3-loaded ∙ set-whole (job .r) (job .registers) (u .registers) whole,
+    ap (λ (v : Unit). length (v .registers)) demand3-loaded ∙ loaded-whole job (u .registers) whole,
     ap wellMadeOf demand3-loaded ∙ well-made-test _ (loaded-made job u sound),
   )
 
@@ -311,10 +336,10 @@ module _ (file : List ℕ) (u : Unit) (whole : Whole (u .registers)) (accepts : 
 
   -- Gone then, after c cycles its registers are what the plain machine leaves of the file's first c - 3 words, beginning from the registers as the load set them.
   pub demand3-job : (c : ℕ) → c ≤ lastOf (job .program .n .0)
-      → afterCalls c (goOf loaded .unit) .registers ≡ plain (take (c - 3) (linesOf (job .program))) set
+      → afterCalls c (goOf loaded .unit) .registers ≡ plain (job .program .edition) (take (c - 3) (linesOf (job .program))) set
   demand3-job c h =
       demand3-registers loaded (demand3-loaded-made .0) (demand3-loaded-made .1) c (omega (arith, size))
-      ∙ (λ i. plain (take (c - 3) (linesOf (demand3-loaded i .program))) (demand3-loaded i .registers))
+      ∙ (λ i. plain (demand3-loaded i .program .edition) (take (c - 3) (linesOf (demand3-loaded i .program))) (demand3-loaded i .registers))
     where
       size : lastOf (loaded .program .n .0) ≡ lastOf (job .program .n .0)
       size = ap (λ (v : Unit). lastOf (v .program .n .0)) demand3-loaded
@@ -325,7 +350,7 @@ module _ (file : List ℕ) (u : Unit) (whole : Whole (u .registers)) (accepts : 
 -- plain machine leaves after all of its words, and nothing else.
 module _ (first : List ℕ) (u : Unit) (whole : Whole (u .registers)) (accepts : loadOf first u .refusal ≡ 0) (calls : List Call)
     (none : renewsInAll calls (goOf (loadOf first u .unit) .unit) ≡ false) (done : drainedOf (unitAfterAll calls (goOf (loadOf first u .unit) .unit)) ≡ true)
-    (second : List ℕ) (good : readOf instructionsAt second .refusal ≡ 0) where
+    (second : List ℕ) (good : readOf second .refusal ≡ 0) where
   -- the unit loaded with the first job, and when that is done; both jobs; the registers that each of the loads sets
   abbrev with-first : Unit
   with-first = loadOf first u .unit
@@ -334,21 +359,21 @@ module _ (first : List ℕ) (u : Unit) (whole : Whole (u .registers)) (accepts :
   first-done = unitAfterAll calls (goOf with-first .unit)
 
   abbrev one : Job
-  one = readOf instructionsAt first .job
+  one = readOf first .job
 
   abbrev two : Job
-  two = readOf instructionsAt second .job
+  two = readOf second .job
 
   abbrev first-set : List Register
-  first-set = registersSet (one .r) (one .registers) (u .registers)
+  first-set = registersLoaded one (u .registers)
 
   abbrev second-set : List Register
-  second-set = registersSet (two .r) (two .registers) (plain (linesOf (one .program)) first-set)
+  second-set = registersLoaded two (plain (one .program .edition) (linesOf (one .program)) first-set)
 
   -- what demand 3 says of these calls, of the program and the registers that were loaded
   abbrev Until : Program → List Register → Type 0
   Until p f = (let c = cyclesInAll calls (goOf with-first .unit) in
-      (first-done .registers ≡ plain (take (c - 3) (linesOf p)) f) × (drainedOf first-done ≡ leb (lastOf (p .n .0)) c))
+      (first-done .registers ≡ plain (p .edition) (take (c - 3) (linesOf p)) f) × (drainedOf first-done ≡ leb (lastOf (p .n .0)) c))
 
   until : Until (one .program) first-set
   until =
@@ -356,11 +381,11 @@ module _ (first : List ℕ) (u : Unit) (whole : Whole (u .registers)) (accepts :
       let d = demand3-until-the-next-go-or-load with-first (made .0) (made .1) calls none in
       subst (λ (v : Unit). Until (v .program) (v .registers)) (demand3-loaded first u whole accepts) (d .2, d .3)
 
-  left : first-done .registers ≡ plain (linesOf (one .program)) first-set
+  left : first-done .registers ≡ plain (one .program .edition) (linesOf (one .program)) first-set
   left =
       let c = cyclesInAll calls (goOf with-first .unit) in
       let all = leb-true (lastOf (one .program .n .0)) c (sym (until .1) ∙ done) in
-      until .0 ∙ ap (λ (p : List ℕ). plain p first-set) (take-all (c - 3) (linesOf (one .program)) (omega (arith, all, many, last-lines (one .program .n .0))))
+      until .0 ∙ ap (λ (p : List ℕ). plain (one .program .edition) p first-set) (take-all (c - 3) (linesOf (one .program)) (omega (arith, all, many, last-lines (one .program .n .0))))
     where
       many : length (linesOf (one .program)) ≡ one .program .n .0
       many =
@@ -370,15 +395,15 @@ module _ (first : List ℕ) (u : Unit) (whole : Whole (u .registers)) (accepts :
   pub demand3-second-load : loadOf second first-done ≡ record { refusal = 0; place = 0; unit = begunOf false (two .program) second-set }
   demand3-second-load =
       load-sets second first-done (record { made = well-made; done = done; good = good })
-      ∙ (λ i. record { refusal = 0; place = 0; unit = begunOf false (two .program) (registersSet (two .r) (two .registers) (left i)) })
+      ∙ (λ i. record { refusal = 0; place = 0; unit = begunOf false (two .program) (registersLoaded two (left i)) })
     where
       well-made : wellMadeOf first-done ≡ true
       well-made = kept-made calls (goOf with-first .unit) (well-made-after with-first (demand3-loaded-made first u whole accepts .1) go)
 
   -- Gone then, after c cycles its registers are what the plain machine leaves of the second file's first c - 3 words, beginning from these.
   pub demand3-second-run : (c : ℕ) → c ≤ lastOf (two .program .n .0)
-      → afterCalls c (goOf (loadOf second first-done .unit) .unit) .registers ≡ plain (take (c - 3) (linesOf (two .program))) second-set
+      → afterCalls c (goOf (loadOf second first-done .unit) .unit) .registers ≡ plain (two .program .edition) (take (c - 3) (linesOf (two .program))) second-set
   demand3-second-run c h =
-      demand3-job second first-done (rw left (plain-whole (linesOf (one .program)) first-set (set-whole (one .r) (one .registers) (u .registers) whole)))
+      demand3-job second first-done (rw left (plain-whole (one .program .edition) (linesOf (one .program)) first-set (loaded-whole one (u .registers) whole)))
       (ap (λ (a : Loaded). a .refusal) demand3-second-load) c h
-      ∙ ap (λ (f : List Register). plain (take (c - 3) (linesOf (two .program))) (registersSet (two .r) (two .registers) f)) left
+      ∙ ap (λ (f : List Register). plain (two .program .edition) (take (c - 3) (linesOf (two .program))) (registersLoaded two f)) left

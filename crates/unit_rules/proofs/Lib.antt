@@ -2,6 +2,7 @@ pub mod Shared
 pub mod Boundaries
 pub mod Positions
 pub mod OneCycle
+pub mod Wired
 pub mod WellMade
 pub mod AfterEachCycle
 pub mod AsPipeline
@@ -10,3 +11,4 @@ pub mod Loading
 pub mod Calls
 pub mod Theorems
 pub mod Demand3
+pub mod Editions

@@ -1,18 +1,19 @@
 -- What a load and a go make of a unit: how each test came out, the registers that a load sets, and that the records are well made. Carried by the laws of decisions, and by
 -- what the reader's tests leave known of an accepted file.
 -- Assumes nothing.
-use Rattle.unit_rules.proofs.Shared.{ℕ, zero, suc, _-_, _≤_, _<_, _≡_, refl, sym, ap, subst, _∙_, Bool, true, false, cond, List, [], _∷_}
+use Rattle.unit_rules.proofs.Shared.{ℕ, zero, suc, _-_, _≤_, _<_, _≡_, refl, sym, ap, subst, _∙_, Bool, true, false, cond, false≢true, List, [], _∷_}
 use Rattle.unit_rules.proofs.Shared.{arith, not-false, length-take, _^_, eq-eqb, ne-eqb, eqb-true, eqb-false, eqb, ltb, getD, set, drop, length, length-set, length-append}
 use Rattle.unit_rules.proofs.Shared.{length-replicate, take-append-seam, getD-set-same, getD-set-other, Register, zeroRegister, wordAt, ofBytes}
 use Rattle.unit_rules.proofs.Shared.{STATE, BUSY, targetOf, firstBad, stepOn, plainOn, step, plain, take, Job, ReadJob, instructionsAt, twoAt, registersAt, wordsIn, registersOf, filled, jobOf}
 use Rattle.unit_rules.proofs.Shared.{readOf, linesOf, Unit, cyclesOf, drainedOf, wellMadeOf, registersSet, loadedOf, loadedBy, loadOf, goneOf, goOf}
-use Rattle.unit_rules.proofs.Shared.{unitWith, Whole}
+use Rattle.unit_rules.proofs.Shared.{unitWith, Whole, Edition, One, Two, isWired, clearedFor, registersLoaded, editionIn}
 use Rattle.table.proofs.Decided.{stops, passes, ends, each, none-refused, denied, not-denied}
 use Rattle.job_rules.proofs.Pieces.{length-pieces}
 use Rattle.job_rules.proofs.Refusals.{accepted, read}
 use Rattle.unit_rules.specs.declared.Loaded.{Loaded}
 use Rattle.unit_rules.specs.Settled.{settledFlight}
 use Rattle.unit_rules.proofs.WellMade.{WellMade, well-made-begun}
+use Rattle.unit_rules.proofs.Wired.{cleared-held}
 use Rattle.unit_rules.proofs.AsPipeline.{stored-whole}
 use Rattle.unit_rules.proofs.Settled.{unit-after}
 
@@ -29,8 +30,8 @@ pub record Sound (j : Job) : Type 0 where
 length-filled : {A : Type 0} (size : ℕ) (none : A) (l : List A) → length l ≤ size → length (filled size none l) ≡ size
 length-filled size none l h = length-append l _ ∙ omega (arith, length-replicate (size - length l) none)
 
-sound-job : (words : List ℕ) (registers : List Register) → length words ≤ 64 → length words ≤ firstBad words → length registers ≤ 32 → Sound (jobOf words registers)
-sound-job words registers few good fewer = record {
+sound-job : (edition : Edition) (words : List ℕ) (registers : List Register) → length words ≤ 64 → length words ≤ firstBad words → length registers ≤ 32 → Sound (jobOf edition words registers)
+sound-job edition words registers few good fewer = record {
   few = few;
   lines = length-filled 64 0 words few;
   good = subst (λ (ws : List ℕ). length words ≤ firstBad ws) (sym (take-append-seam words _)) good;
@@ -38,15 +39,16 @@ sound-job words registers few good fewer = record {
   rows = length-filled 32 zeroRegister registers fewer;
 }
 
-pub sound-read : (file : List ℕ) → readOf instructionsAt file .refusal ≡ 0 → Sound (readOf instructionsAt file .job)
+pub sound-read : (file : List ℕ) → readOf file .refusal ≡ 0 → Sound (readOf file .job)
 sound-read file e =
-    let a = accepted instructionsAt file e in
+    let edition = editionIn file in
+    let a = accepted edition file e in
     let t = a .header in
-    let at = registersAt instructionsAt (twoAt file 0) in
-    let words = length-pieces (λ (m : List ℕ). wordAt m 0) 4 (twoAt file 0) (drop instructionsAt file) in
+    let at = registersAt edition (twoAt file 0) in
+    let words = length-pieces (λ (m : List ℕ). wordAt m 0) 4 (twoAt file 0) (drop (instructionsAt edition) file) in
     let registers = length-pieces ofBytes 16 (twoAt file 2) (drop at file) in
-    subst Sound (sym (ap (λ (r : ReadJob). r .job) (read instructionsAt file a)))
-    (sound-job (wordsIn (twoAt file 0) (drop instructionsAt file)) (registersOf (twoAt file 2) (drop at file))
+    subst Sound (sym (ap (λ (r : ReadJob). r .job) (read edition file a)))
+    (sound-job edition (wordsIn (twoAt file 0) (drop (instructionsAt edition) file)) (registersOf (twoAt file 2) (drop at file))
     (omega (arith, words, t .few)) (omega (arith, words, a .good)) (omega (arith, registers, t .fewer)))
 
 -- ---- the tests of a load and of a go
@@ -60,7 +62,7 @@ module _ (file : List ℕ) (u : Unit) where
   unfolding loadOf
   load-busy made runs = sym (passes _ _ _ (not-denied made) (stops _ _ (denied runs)))
 
-  pub load-reads : wellMadeOf u ≡ true → drainedOf u ≡ true → loadOf file u ≡ loadedBy (readOf instructionsAt file) u
+  pub load-reads : wellMadeOf u ≡ true → drainedOf u ≡ true → loadOf file u ≡ loadedBy (readOf file) u
   unfolding loadOf
   load-reads made done = sym (passes _ _ _ (not-denied made) (passes _ _ _ (not-denied done) ends))
 
@@ -68,7 +70,7 @@ module _ (file : List ℕ) (u : Unit) where
   pub record Taken : Type 0 where
     pub made : wellMadeOf u ≡ true
     pub done : drainedOf u ≡ true
-    pub good : readOf instructionsAt file .refusal ≡ 0
+    pub good : readOf file .refusal ≡ 0
 
   pub load-taken : loadOf file u .refusal ≡ 0 → Taken
   unfolding loadOf
@@ -78,15 +80,15 @@ module _ (file : List ℕ) (u : Unit) where
       let done = not-false _ (passed .1 .0) in
       record { made = made; done = done; good = sym (ap (λ (a : Loaded). a .refusal) (load-reads made done)) ∙ e }
 
-  pub load-sets : Taken → loadOf file u ≡ record { refusal = 0; place = 0; unit = loadedOf (readOf instructionsAt file .job) u }
+  pub load-sets : Taken → loadOf file u ≡ record { refusal = 0; place = 0; unit = loadedOf (readOf file .job) u }
   load-sets t =
-      let is-read = read instructionsAt file (accepted instructionsAt file (t .good)) in
+      let is-read = read (editionIn file) file (accepted (editionIn file) file (t .good)) in
       load-reads (t .made) (t .done)
-      ∙ rw (eq-eqb (readOf instructionsAt file .refusal) 0 (t .good))
+      ∙ rw (eq-eqb (readOf file .refusal) 0 (t .good))
       (λ i. record {
         refusal = t .good i;
         place = is-read i .place;
-        unit = loadedOf (readOf instructionsAt file .job) u;
+        unit = loadedOf (readOf file .job) u;
       })
 
   -- refused, it changes nothing
@@ -113,7 +115,7 @@ left-as-they-were (suc r) file f i h =
     getD-set-other (registersSet r file f) r i (getD file r zeroRegister) zeroRegister (λ e. omega arith)
     ∙ left-as-they-were r file f i (omega arith)
 
-pub set-whole : (r : ℕ) (file f : List Register) → Whole f → Whole (registersSet r file f)
+set-whole : (r : ℕ) (file f : List Register) → Whole f → Whole (registersSet r file f)
 set-whole zero file f k = k
 set-whole (suc r) file f k = length-set (registersSet r file f) r (getD file r zeroRegister) ∙ set-whole r file f k
 
@@ -130,22 +132,45 @@ set-from-file (suc r) file f k few i h = go (eqb i r) refl (set-from-file r file
         let other = eqb-false i r q in
         getD-set-other (registersSet r file f) r i (getD file r zeroRegister) zeroRegister other ∙ before (omega arith)
 
+-- and then clears where the edition wires register 0: no other register, and that one has zero
+cleared-whole : (edition : Edition) (f : List Register) → Whole f → Whole (clearedFor edition zeroRegister f)
+cleared-whole One f k = k
+cleared-whole Two f k = length-set f 0 zeroRegister ∙ k
+
+pub loaded-whole : (j : Job) (f : List Register) → Whole f → Whole (registersLoaded j f)
+loaded-whole j f k = cleared-whole (j .program .edition) (registersSet (j .r) (j .registers) f) (set-whole (j .r) (j .registers) f k)
+
+pub cleared-others : (edition : Edition) (f : List Register) (i : ℕ) → isWired edition (record { 0 = i }) ≡ false
+    → getD (clearedFor edition zeroRegister f) i zeroRegister ≡ getD f i zeroRegister
+cleared-others One f i h = refl
+cleared-others Two f i h = getD-set-other f 0 i zeroRegister zeroRegister (eqb-false i 0 h)
+
+pub cleared-zero : (edition : Edition) (f : List Register) (i : ℕ) → isWired edition (record { 0 = i }) ≡ true
+    → getD (clearedFor edition zeroRegister f) i zeroRegister ≡ zeroRegister
+cleared-zero One f i h = absurd (false≢true h)
+cleared-zero Two f i h = rw (eqb-true i 0 h) (first f)
+  where
+    first : (g : List Register) → getD (set g 0 zeroRegister) 0 zeroRegister ≡ zeroRegister
+    first [] = refl
+    first (x ∷ g) = refl
+
 -- ---- well made, and what follows a go
 
 pub loaded-made : (j : Job) (u : Unit) → Sound j → WellMade (loadedOf j u)
-loaded-made j u s = well-made-begun false (j .program) (registersSet (j .r) (j .registers) (u .registers)) (s .few) (s .good)
+loaded-made j u s =
+    well-made-begun false (j .program) (registersLoaded j (u .registers)) (s .few) (s .good) (cleared-held (j .program .edition) (registersSet (j .r) (j .registers) (u .registers)))
 
 pub well-made-gone : (u : Unit) → WellMade u → WellMade (goneOf u)
-well-made-gone u w = well-made-begun true (u .program) (u .registers) (w .few) (w .good)
+well-made-gone u w = well-made-begun true (u .program) (u .registers) (w .few) (w .good) (w .held)
 
 -- plain execution leaves a whole file
-pub plain-whole : (p : List ℕ) (f : List Register) → Whole f → Whole (plain p f)
+pub plain-whole : (edition : Edition) (p : List ℕ) (f : List Register) → Whole f → Whole (plain edition p f)
 unfolding plainOn stepOn
-plain-whole [] f k = k
-plain-whole (w ∷ p) f k = plain-whole p (step w f) (stored-whole (targetOf w) _ f k)
+plain-whole edition [] f k = k
+plain-whole edition (w ∷ p) f k = plain-whole edition p (step edition w f) (stored-whole (targetOf edition w) _ f k)
 
 -- a program's n lines are there
-bad-at-most : (ws : List ℕ) → firstBad ws ≤ length ws
+pub bad-at-most : (ws : List ℕ) → firstBad ws ≤ length ws
 unfolding firstBad
 bad-at-most [] = omega arith
 bad-at-most (w ∷ ws) = go (ltb w (2 ^ 25)) (bad-at-most ws)
@@ -160,5 +185,5 @@ enough-words u w =
 
 -- after c cycles from a go the registers are the plain machine's, and they tell what is in flight
 pub unit-gone : (u : Unit) → Whole (u .registers) → WellMade u → (c : ℕ)
-    → (let g = plain (take (c - 3) (linesOf (u .program))) (u .registers) in cyclesOf c (goneOf u) ≡ unitWith (goneOf u) c g (settledFlight (u .program) c g))
+    → (let g = plain (u .program .edition) (take (c - 3) (linesOf (u .program))) (u .registers) in cyclesOf c (goneOf u) ≡ unitWith (goneOf u) c g (settledFlight (u .program) c g))
 unit-gone u whole w c = unit-after u whole (enough-words u w) c

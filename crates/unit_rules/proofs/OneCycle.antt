@@ -54,10 +54,10 @@ decode (IF/ID.Holds i) f = refl
 
 -- a count below n is below 64, so that its remainder by 64 is the count itself
 pub deliver : (program : Program) (k : Count) → program .n .0 ≤ 64
-    → deliveredOf (program .n) k (getD (program .words) (k .0 % 64) 0) ≡ afterIF program (k .0)
+    → deliveredOf (program .edition) (program .n) k (getD (program .words) (k .0 % 64) 0) ≡ afterIF program (k .0)
 deliver program k small = go (ltb (k .0) (program .n .0)) refl
   where
-    go : (t : Bool) → ltb (k .0) (program .n .0) ≡ t → deliveredOf (program .n) k (getD (program .words) (k .0 % 64) 0) ≡ afterIF program (k .0)
+    go : (t : Bool) → ltb (k .0) (program .n .0) ≡ t → deliveredOf (program .edition) (program .n) k (getD (program .words) (k .0 % 64) 0) ≡ afterIF program (k .0)
     go true q =
         let below : k .0 < program .n .0 = ltb-true (k .0) (program .n .0) q in
         let same : k .0 % 64 ≡ k .0 = omega arith in

@@ -3,7 +3,7 @@
 -- Assumes nothing.
 use Rattle.unit_rules.proofs.Shared.{ℕ, zero, suc, _+_, _-_, _≤_, _<_, min, _≡_, refl, sym, ap, _∙_, Bool, true, false, _&&_, and-false, false≢true, List, add-one}
 use Rattle.unit_rules.proofs.Shared.{arith, lt-ltb, le-ltb, le-leb, lt-leb, leb-true, leb-false, ltb-true, ltb-false, eqb-true, eqb-false}
-use Rattle.unit_rules.proofs.Shared.{ne-eqb, eqb, ltb, leb, leb·zero, Register, IfId, IdEx, ExWb, Program, Unit, afterEX, afterID, afterIF}
+use Rattle.unit_rules.proofs.Shared.{ne-eqb, eqb, ltb, leb, leb·zero, Register, IfId, IdEx, ExWb, Program, Unit, afterEX, afterID, afterIF, Edition}
 use Rattle.unit_rules.proofs.Shared.{countAfter, cycleOf, cyclesOf, fetchedIn, inDecoded, inExecuted, isEmpty, allEmpty, drainedOf, lastOf, inFlightOf, unitWith, add-zero}
 use Rattle.alu_rules.proofs.Integers.{either}
 use Rattle.unit_rules.proofs.Shared.IF/ID
@@ -122,17 +122,17 @@ whereabouts n c = go (leb (n + 3) c) (ltb c n) (eqb c n) (eqb c (n + 1)) refl re
     go false false false false qs qt qx qy =
         at-2 (omega (arith, leb-false (n + 3) c qs, ltb-false c n qt, eqb-false c n qx, eqb-false c (n + 1) qy))
 
-all-empty : (words : List ℕ) (n c : ℕ) → emptied (record { words = words; n = record { 0 = n } }) c ≡ leb (lastOf n) c
+all-empty : (edition : Edition) (words : List ℕ) (n c : ℕ) → emptied (record { words = words; n = record { 0 = n }; edition = edition }) c ≡ leb (lastOf n) c
 unfolding emptied
-all-empty words zero c = simp (no-lines, leb·zero)
+all-empty edition words zero c = simp (no-lines, leb·zero)
   where
-    no-lines : (k : ℕ) → isEmpty (fetchedIn (record { words = words; n = record { 0 = 0 } }) k) ≡ true
+    no-lines : (k : ℕ) → isEmpty (fetchedIn (record { words = words; n = record { 0 = 0 }; edition = edition }) k) ≡ true
     no-lines zero = refl
-    no-lines (suc k) = nothing (record { words = words; n = record { 0 = 0 } }) (suc k) (omega arith)
-all-empty words (suc n) c = rw (ne-eqb (suc n) 0 (omega arith)) (go (whereabouts (suc n) c))
+    no-lines (suc k) = nothing (record { words = words; n = record { 0 = 0 }; edition = edition }) (suc k) (omega arith)
+all-empty edition words (suc n) c = rw (ne-eqb (suc n) 0 (omega arith)) (go (whereabouts (suc n) c))
   where
     p : Program
-    p = record { words = words; n = record { 0 = suc n } }
+    p = record { words = words; n = record { 0 = suc n }; edition = edition }
 
     go : Where (suc n) c → emptied p c ≡ leb (suc n + 3) c
     go (past h) =
@@ -150,7 +150,7 @@ all-empty words (suc n) c = rw (ne-eqb (suc n) 0 (omega arith)) (go (whereabouts
 
 -- a unit that has gone is drained exactly from the last cycle on
 pub drained-is : (u : Unit) → u .gone ≡ true → Placed u → drainedOf u ≡ leb (lastOf (u .program .n .0)) (u .cycle)
-drained-is u went h = drained-held u went h ∙ all-empty (u .program .words) (u .program .n .0) (u .cycle)
+drained-is u went h = drained-held u went h ∙ all-empty (u .program .edition) (u .program .words) (u .program .n .0) (u .cycle)
 
 pub drained-after : (u : Unit) → u .gone ≡ true → Placed u → (c : ℕ) → drainedOf (cyclesOf c u) ≡ leb (lastOf (u .program .n .0)) (u .cycle + c)
 drained-after u went h c =

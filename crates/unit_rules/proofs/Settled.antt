@@ -112,7 +112,7 @@ module _ (p : Program) (enough : p .n .0 ≤ length (p .words)) (c : ℕ) (f : L
   size = length-drop (c - 3) (linesOf p) ∙ ap (λ (l : ℕ). l - (c - 3)) (length-take-le (p .n .0) (p .words) enough)
 
   abbrev completed : ℕ → List Register
-  completed t = plain (take (many c t) behind-those) f
+  completed t = plain (p .edition) (take (many c t) behind-those) f
 
   one-completed : (t : ℕ) → executed machine (reaching p c t) (completed t) ≡ completed (suc t)
   unfolding stepOn
@@ -129,17 +129,17 @@ module _ (p : Program) (enough : p .n .0 ≤ length (p .words)) (c : ℕ) (f : L
       line k q true l =
           let below = ltb-true k (p .n .0) l in
           let at = many-at c t k q in
-          sym (ap (λ (j : ℕ). plain (take j behind-those) f) (many-more c t k q)
-          ∙ one-more behind-those (many c t) f (inside k at below)
-          ∙ ap (λ (w : ℕ). step w (completed t))
+          sym (ap (λ (j : ℕ). plain (p .edition) (take j behind-those) f) (many-more c t k q)
+          ∙ one-more (p .edition) behind-those (many c t) f (inside k at below)
+          ∙ ap (λ (w : ℕ). step (p .edition) w (completed t))
           (getD-drop (c - 3) (linesOf p) (many c t) 0 ∙ ap (λ (j : ℕ). getD (linesOf p) j 0) at ∙ getD-take (p .n .0) (p .words) k 0 below))
       line k q false l =
           let few = outside k (many-at c t k q) (ltb-false k (p .n .0) l) in
           let more = many-more c t k q in
-          ap (λ (w : List ℕ). plain w f) (take-all (many c t) behind-those few ∙ sym (take-all (many c (suc t)) behind-those (omega arith)))
+          ap (λ (w : List ℕ). plain (p .edition) w f) (take-all (many c t) behind-those few ∙ sym (take-all (many c (suc t)) behind-those (omega arith)))
 
       go : (j : ℕ) → c + t - 2 ≡ j → executed machine (slotOf (fetchedIn p j)) (completed t) ≡ completed (suc t)
-      go zero q = let none : many c t ≡ many c (suc t) = omega arith in ap (λ (j : ℕ). plain (take j behind-those) f) none
+      go zero q = let none : many c t ≡ many c (suc t) = omega arith in ap (λ (j : ℕ). plain (p .edition) (take j behind-those) f) none
       go (suc k) q = line k q (ltb k (p .n .0)) refl
 
   all-completed : (t : ℕ) → executedAll machine (reaching p c) t f ≡ completed t
@@ -149,7 +149,7 @@ module _ (p : Program) (enough : p .n .0 ≤ length (p .words)) (c : ℕ) (f : L
 
 -- t cycles on, a settled unit has the registers that the plain machine leaves after the lines that complete, and these tell what is in flight
 pub settled-on : (u : Unit) → Settled u → Whole (u .registers) → u .program .n .0 ≤ length (u .program .words) → (t : ℕ)
-    → (let g = plain (take (many (u .cycle) t) (drop (u .cycle - 3) (linesOf (u .program)))) (u .registers) in
+    → (let g = plain (u .program .edition) (take (many (u .cycle) t) (drop (u .cycle - 3) (linesOf (u .program)))) (u .registers) in
     cyclesOf t u ≡ unitWith u t g (settledFlight (u .program) (u .cycle + t) g))
 settled-on u settled whole enough t =
     stays u settled whole t
@@ -210,9 +210,9 @@ settled-in-two u h whole =
 
 -- so after c cycles from a go the registers are what the plain machine leaves after the first c - 3 lines, and these tell what is in flight
 pub unit-after : (u : Unit) → Whole (u .registers) → u .program .n .0 ≤ length (u .program .words) → (c : ℕ)
-    → (let g = plain (take (c - 3) (linesOf (u .program))) (u .registers) in cyclesOf c (goneOf u) ≡ unitWith (goneOf u) c g (settledFlight (u .program) c g))
+    → (let g = plain (u .program .edition) (take (c - 3) (linesOf (u .program))) (u .registers) in cyclesOf c (goneOf u) ≡ unitWith (goneOf u) c g (settledFlight (u .program) c g))
 unit-after u whole enough c =
     let all : 0 + c ≡ c = omega arith in
     let first : 0 + c - 3 - 0 ≡ c - 3 = omega arith in
     settled-on (goneOf u) (gone-settled u) whole enough c
-    ∙ (λ i. let g = plain (take (first i) (linesOf (u .program))) (u .registers) in unitWith (goneOf u) c g (settledFlight (u .program) (all i) g))
+    ∙ (λ i. let g = plain (u .program .edition) (take (first i) (linesOf (u .program))) (u .registers) in unitWith (goneOf u) c g (settledFlight (u .program) (all i) g))

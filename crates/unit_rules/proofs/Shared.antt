@@ -15,25 +15,27 @@ pub use lib.ListN.{getD, set, take, length, length-set, length-take, drop, lengt
 pub use lib.Seq.{getD-set-same, getD-set-other, getD-take, take-all, length-take-le, take-append-seam, take-at, sets-eq}
 pub use Rattle.register.specs.declared.Register.{Register}
 pub use Rattle.register.specs.Layout.{zeroRegister, wordAt, ofBytes, rowOf}
+pub use Rattle.table.specs.declared.Edition.{Edition}
+pub use Rattle.table.specs.declared.Edition.the-variants.{One, Two}
 pub use Rattle.table.specs.declared.Pointer.{Pointer}
 pub use Rattle.table.specs.declared.Target.{Target}
 pub use Rattle.table.specs.declared.Target.the-variants.{None, To}
 pub use Rattle.table.specs.Fields.{rs2Of, rs3Of, rdOf, isLi, rs1Of}
 unfoldable pub use Rattle.table.specs.Fields.{firstOf}
-pub use Rattle.table.specs.Operation.{readsOf, takesFirst, takesSecond, takesThird, isNop, Operation}
+pub use Rattle.table.specs.Operation.{readsOf, takesFirst, takesSecond, takesThird, isNop, isWired, Operation}
 unfoldable pub use Rattle.table.specs.Operation.{operationOf, targetOf}
 pub use Rattle.table.specs.Refusal.{DRAINED, STATE, ROOM, BUSY}
 unfoldable pub use Rattle.table.specs.Refusal.{firstBad}
-pub use Rattle.plain_rules.specs.Machine.{stored, step, plain, plainRows}
+pub use Rattle.plain_rules.specs.Machine.{stored, clearedFor, step, plain, plainRows, clearedRows}
 unfoldable pub use Rattle.plain_rules.specs.Machine.{stepOn, plainOn}
 pub use Rattle.plain_rules.proofs.Theorems.{one-more, registers-as-rows}
 pub use Rattle.job_rules.specs.declared.Job.{Job}
 pub use Rattle.job_rules.specs.declared.ReadJob.{ReadJob}
-pub use Rattle.job_rules.specs.Layout.{instructionsAt, twoAt, registersAt, wordsIn, registersOf, LARGEST}
+pub use Rattle.job_rules.specs.Layout.{instructionsAt, editionIn, twoAt, registersAt, wordsIn, registersOf, LARGEST}
 pub use Rattle.job_rules.specs.Read.{filled, jobOf, readOf}
 unfoldable pub use Rattle.job_rules.specs.Read.{headerOf, testedOf, bodyOf}
 pub use Rattle.job_rules.specs.declared.Program.{Program}
-pub use Rattle.job_rules.specs.Program.{linesOf}
+pub use Rattle.job_rules.specs.Program.{linesOf, mayHold}
 pub use Rattle.unit_rules.specs.declared.IfId.{IfId}
 pub use Rattle.unit_rules.specs.declared.IdEx.{IdEx}
 pub use Rattle.unit_rules.specs.declared.ExWb.{ExWb}
@@ -41,7 +43,7 @@ pub use Rattle.unit_rules.specs.declared.Unit.{Unit}
 pub use Rattle.unit_rules.specs.Cycle.{instructionOf, afterWB, isTarget, newestOperands, operandsIn, afterEX, afterID, afterIF, readBy, newest}
 pub use Rattle.unit_rules.specs.Cycle.{instructionAt, given, countAfter, fetchedIn}
 unfoldable pub use Rattle.unit_rules.specs.Cycle.{cycleOf, cyclesOf}
-pub use Rattle.unit_rules.specs.Calls.{goneOf, registersSet, loadedOf, loadedBy, freshOf, begunOf}
+pub use Rattle.unit_rules.specs.Calls.{goneOf, registersSet, registersLoaded, loadedOf, loadedBy, freshOf, begunOf}
 unfoldable pub use Rattle.unit_rules.specs.Calls.{loadOf, goOf, cycledOf, ranOf, registerOf, askedDrained, goesOn}
 pub use Rattle.unit_rules.specs.Sequence.{Whole, afterCalls, Call, unitAfter, madeUnless, cyclesIn, renews, unitAfterAll, cyclesInAll, renewsInAll}
 pub use Rattle.unit_rules.specs.declared.Cycled.{Cycled}

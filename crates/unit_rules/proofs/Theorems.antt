@@ -3,7 +3,7 @@
 -- Assumes nothing.
 use Rattle.unit_rules.proofs.Shared.{ℕ, zero, suc, _+_, _≤_, _<_, _≡_, refl, sym, ap, subst, _∙_, _↔_, Bool, true, false, cond, not, _&&_, _||_, List}
 use Rattle.unit_rules.proofs.Shared.{arith, lt-ltb, le-ltb, leb-true, le-leb, eq-eqb, eqb-false, leb, eqb, getD, length-replicate, Register, zeroRegister, STATE, DRAINED}
-use Rattle.unit_rules.proofs.Shared.{firstBad, linesOf, IdEx, ExWb, Unit, Whole, inDecoded, inExecuted, isEmpty, allEmpty, cycleOf}
+use Rattle.unit_rules.proofs.Shared.{firstBad, linesOf, mayHold, IdEx, ExWb, Unit, Whole, inDecoded, inExecuted, isEmpty, allEmpty, cycleOf}
 use Rattle.unit_rules.proofs.Shared.{Cycled, Ran, drainedOf, wellMadeOf, freshOf, loadOf, goOf, cycledOf, goesOn, ranOf, registerOf, askedDrained}
 use Rattle.unit_rules.proofs.Shared.{Call, unitAfter, madeUnless, cyclesIn, renews, unitAfterAll}
 use Rattle.unit_rules.proofs.Shared.IF/ID
@@ -83,18 +83,18 @@ nothing-held u = (
   λ h. rw (h .0, h .1, h .2),
 )
 
--- "the state loaded and not gone, in which count and cycle are zero and the latches empty", with n and the words as in the other state
+-- "the state loaded and not gone, in which count and cycle are zero and the latches empty", with n, the words and register 0 as in the other state
 pub well-made-loaded : (u : Unit) → u .gone ≡ false
     → (wellMadeOf u ≡ true)
-    ↔ ((u .program .n .0 ≤ 64) × (u .program .n .0 ≤ firstBad (linesOf (u .program))) × (u .count .0 ≡ 0) × (u .cycle ≡ 0) × NothingHeld u)
+    ↔ ((u .program .n .0 ≤ 64) × (u .program .n .0 ≤ firstBad (linesOf (u .program))) × (mayHold (u .program .edition) (getD (u .registers) 0 zeroRegister) ≡ true) × (u .count .0 ≡ 0) × (u .cycle ≡ 0) × NothingHeld u)
 unfolding wellMadeOf
 well-made-loaded u still = (
   λ e.
       let w = well-made-says u e in
       let at-0 = w .resting still in
       let empty = both (eqb (u .count .0) 0 && eqb (u .cycle) 0) (allEmpty (u .fetched) (inDecoded (u .decoded)) (inExecuted (u .executed))) (rest-test u at-0 (w .placed)) .1 in
-      (w .few, w .good, omega (arith, w .placed .counted), at-0, nothing-held u .0 empty),
-  λ h. rw (still, le-leb _ _ (h .0), le-leb _ _ (h .1), eq-eqb _ _ (h .2), eq-eqb _ _ (h .3)) (nothing-held u .1 (h .4)),
+      (w .few, w .good, w .held, omega (arith, w .placed .counted), at-0, nothing-held u .0 empty),
+  λ h. rw (still, le-leb _ _ (h .0), le-leb _ _ (h .1), h .2, eq-eqb _ _ (h .3), eq-eqb _ _ (h .4)) (nothing-held u .1 (h .5)),
 )
 
 -- "A loaded unit that has not gone counts as drained": so it is answered; a cycle is refused with 8, and a run makes none

@@ -2,17 +2,20 @@
 -- Assumes nothing.
 use Rattle.unit_rules.proofs.Shared.{ℕ, zero, suc, _+_, _-_, _≤_, _<_, min, _≡_, refl, sym, ap, _∙_, Bool, true, false, cond, _&&_, false≢true}
 use Rattle.unit_rules.proofs.Shared.{add-zero, add-suc, arith, le-leb, leb-true, leb-false, eqb-true, eq-eqb, eqb, leb, Target, None, To}
-use Rattle.unit_rules.proofs.Shared.{firstBad, List, Register, Program, linesOf, IfId, Unit, fetchedIn, cycleOf, cyclesOf, inDecoded, inExecuted, isEmpty, allEmpty, drainedOf, lastOf}
+use Rattle.unit_rules.proofs.Shared.{getD, zeroRegister, mayHold, firstBad, List, Register, Program, linesOf, IfId, Unit, fetchedIn, cycleOf, cyclesOf, inDecoded, inExecuted, isEmpty, allEmpty, drainedOf, lastOf}
 use Rattle.unit_rules.proofs.Shared.{sameTarget, sameInstruction, sameHeld, programMade, numbersMade, runMade, restMade, wellMadeOf, begunOf, goesOn}
 use Rattle.unit_rules.proofs.Shared.IF/ID
 use Rattle.unit_rules.specs.declared.Instruction.{Instruction}
+use Rattle.unit_rules.proofs.Wired.{cycles-held}
 use Rattle.unit_rules.proofs.Positions.{Placed, placed-cycle, placed-cycles, drained-is, cycles-program, cycles-number, cycles-gone, gone-unless}
 
 -- "n is at most 64, its n words are below 2^25, the cycle number c is at most n+3 (0 when n is 0), the count is the smaller of c and n, and the latches
--- hold instructions c-1, c-2 and c-3, or nothing outside 0 .. n-1"; in the state "loaded and not gone" the cycle is 0, so that the count is zero and the latches are empty
+-- hold instructions c-1, c-2 and c-3, or nothing outside 0 .. n-1"; in the state "loaded and not gone" the cycle is 0, so that the count is zero and the latches are empty; and
+-- register 0 holds what the edition lets it hold
 pub record WellMade (u : Unit) : Type 0 where
   pub few : u .program .n .0 ≤ 64
   pub good : u .program .n .0 ≤ firstBad (linesOf (u .program))
+  pub held : mayHold (u .program .edition) (getD (u .registers) 0 zeroRegister) ≡ true
   pub reached : u .cycle ≤ lastOf (u .program .n .0)
   pub placed : Placed u
   pub resting : u .gone ≡ false → u .cycle ≡ 0
@@ -77,7 +80,11 @@ module _ (u : Unit) where
   abbrev n : ℕ
   n = u .program .n .0
 
-  -- what is tested behind the program, by whether it has gone
+  -- what is tested of register 0
+  abbrev holds : Bool
+  holds = mayHold (u .program .edition) (getD (u .registers) 0 zeroRegister)
+
+  -- what is tested behind that, by whether it has gone
   abbrev made : Bool → Bool
   made gone =
       cond gone
@@ -118,15 +125,16 @@ module _ (u : Unit) where
   pub well-made-says : wellMadeOf u ≡ true → WellMade u
   unfolding wellMadeOf
   well-made-says e =
-      let split = both (programMade (u .program)) _ e in
-      let few = both (leb n 64) (leb n (firstBad (linesOf (u .program)))) (split .0) in
-      go (u .gone) refl (leb-true _ _ (few .0)) (leb-true _ _ (few .1)) (split .1)
+      let split = both (programMade (u .program) && holds) _ e in
+      let first = both (programMade (u .program)) holds (split .0) in
+      let few = both (leb n 64) (leb n (firstBad (linesOf (u .program)))) (first .0) in
+      go (u .gone) refl (leb-true _ _ (few .0)) (leb-true _ _ (few .1)) (first .1) (split .1)
     where
-      go : (t : Bool) → u .gone ≡ t → n ≤ 64 → n ≤ firstBad (linesOf (u .program)) → made t ≡ true → WellMade u
-      go true q few good e =
-          let s = run-says e in record { few = few; good = good; reached = s .0; placed = s .1; resting = λ still. absurd (false≢true (sym still ∙ q)) }
-      go false q few good e =
-          let s = rest-says e in record { few = few; good = good; reached = omega (arith, s .0); placed = s .1; resting = λ still. s .0 }
+      go : (t : Bool) → u .gone ≡ t → n ≤ 64 → n ≤ firstBad (linesOf (u .program)) → holds ≡ true → made t ≡ true → WellMade u
+      go true q few good held e =
+          let s = run-says e in record { few = few; good = good; held = held; reached = s .0; placed = s .1; resting = λ still. absurd (false≢true (sym still ∙ q)) }
+      go false q few good held e =
+          let s = rest-says e in record { few = few; good = good; held = held; reached = omega (arith, s .0); placed = s .1; resting = λ still. s .0 }
 
   run-test : u .cycle ≤ lastOf n → Placed u → made true ≡ true
   run-test reached p =
@@ -146,7 +154,7 @@ module _ (u : Unit) where
 
   pub well-made-test : WellMade u → wellMadeOf u ≡ true
   unfolding wellMadeOf
-  well-made-test w = and-true (and-true (le-leb _ _ (w .few)) (le-leb _ _ (w .good))) (go (u .gone) refl)
+  well-made-test w = and-true (and-true (and-true (le-leb _ _ (w .few)) (le-leb _ _ (w .good))) (w .held)) (go (u .gone) refl)
     where
       go : (t : Bool) → u .gone ≡ t → made t ≡ true
       go true q = run-test (w .reached) (w .placed)
@@ -167,10 +175,11 @@ gone-later u w some = gone-unless u (λ still. omega (arith, w .resting still))
 -- ---- well made from a load and from a go on
 
 pub well-made-begun : (gone : Bool) (program : Program) (registers : List Register) → program .n .0 ≤ 64 → program .n .0 ≤ firstBad (linesOf program)
-    → WellMade (begunOf gone program registers)
-well-made-begun gone program registers few good = record {
+    → mayHold (program .edition) (getD registers 0 zeroRegister) ≡ true → WellMade (begunOf gone program registers)
+well-made-begun gone program registers few good held = record {
   few = few;
   good = good;
+  held = held;
   reached = omega arith;
   placed = record { counted = omega arith; in-IF/ID = refl; in-ID/EX = refl; in-EX/WB = refl };
   resting = λ still. refl;
@@ -181,6 +190,7 @@ well-made-cycles u went w c h =
     record {
       few = rw (cycles-program c u) (w .few);
       good = rw (cycles-program c u) (w .good);
+      held = rw (cycles-program c u) (cycles-held c u (w .placed) ∙ w .held);
       reached = rw (cycles-program c u, cycles-number c u) h;
       placed = placed-cycles c u (w .placed);
       resting = λ still. absurd (false≢true (sym still ∙ cycles-gone c u ∙ went));

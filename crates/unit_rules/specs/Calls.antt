@@ -7,12 +7,13 @@ use lib.Dec.{eqb, ltb}
 use lib.ListN.{getD, set, replicate}
 use Rattle.register.specs.declared.Register.{Register}
 use Rattle.register.specs.Layout.{zeroRegister}
+use Rattle.table.specs.declared.Edition.the-variants.{One}
 use Rattle.table.specs.Decided.{decided}
 use Rattle.table.specs.Refusal.{POINTER, DRAINED, STATE, BUSY}
+use Rattle.plain_rules.specs.Machine.{clearedFor}
 use Rattle.job_rules.specs.declared.Job.{Job}
 use Rattle.job_rules.specs.declared.Program.{Program}
 use Rattle.job_rules.specs.declared.ReadJob.{ReadJob}
-use Rattle.job_rules.specs.Layout.{instructionsAt}
 use Rattle.job_rules.specs.Read.{readOf}
 use Rattle.unit_rules.specs.declared.IfId.the-variants as IF/ID
 use Rattle.unit_rules.specs.declared.IdEx.the-variants as ID/EX
@@ -40,9 +41,9 @@ begunOf gone program registers = record {
   gone = gone;
 }
 
--- "A fresh unit has n = 0, registers zero, and is drained.": it is loaded and has not gone
+-- "A fresh unit has n = 0, registers zero, and is drained."; "Edition 1, which a fresh unit has": it is loaded and has not gone
 abbrev pub freshOf : Unit
-freshOf = begunOf false (record { words = replicate 64 0; n = record { 0 = 0 } }) (replicate 32 zeroRegister)
+freshOf = begunOf false (record { words = replicate 64 0; n = record { 0 = 0 }; edition = One }) (replicate 32 zeroRegister)
 
 -- ---- load
 
@@ -51,9 +52,13 @@ abbrev pub registersSet : ℕ → List Register → List Register → List Regis
 registersSet zero file f = f
 registersSet (suc i) file f = set (registersSet i file f) i (getD file i zeroRegister)
 
+-- and in the second edition "register 0 is zero from load on"
+abbrev pub registersLoaded : Job → List Register → List Register
+registersLoaded job f = clearedFor (job .program .edition) zeroRegister (registersSet (job .r) (job .registers) f)
+
 -- "load .. sets program and registers and puts count and cycle to zero": the state is "loaded and not gone", in which "the latches [are] empty"
 abbrev pub loadedOf : Job → Unit → Unit
-loadedOf job u = begunOf false (job .program) (registersSet (job .r) (job .registers) (u .registers))
+loadedOf job u = begunOf false (job .program) (registersLoaded job (u .registers))
 
 -- by what reading the file answers; refused, the unit "comes back as it was given"
 abbrev pub loadedBy : ReadJob → Unit → Loaded
@@ -66,7 +71,7 @@ loadOf file u =
     ((not (wellMadeOf u), record { refusal = STATE; place = 0; unit = u })
     ∷ (not (drainedOf u), record { refusal = BUSY; place = 0; unit = u })
     ∷ [])
-    (loadedBy (readOf instructionsAt file) u)
+    (loadedBy (readOf file) u)
 
 -- ---- go
 

@@ -7,6 +7,7 @@ use lib.Dec.{eqb, ltb}
 use lib.ListN.{getD}
 use Rattle.register.specs.declared.Register.{Register}
 use Rattle.register.specs.Layout.{zeroRegister}
+use Rattle.table.specs.declared.Edition.{Edition}
 use Rattle.table.specs.declared.Pointer.{Pointer}
 use Rattle.table.specs.declared.Reads.{Reads}
 use Rattle.table.specs.declared.Target.{Target}
@@ -27,13 +28,13 @@ use Rattle.unit_rules.specs.declared.ExWb.{ExWb}
 use Rattle.unit_rules.specs.declared.ExWb.the-variants as EX/WB
 use Rattle.unit_rules.specs.declared.Unit.{Unit}
 
--- the instruction of a word
-abbrev pub instructionOf : ℕ → Instruction
-instructionOf w = record { word = w; first = firstOf w; second = rs2Of w; third = rs3Of w; target = targetOf w }
+-- the instruction of a word, on a card of this edition
+abbrev pub instructionOf : Edition → ℕ → Instruction
+instructionOf edition w = record { word = w; first = firstOf w; second = rs2Of w; third = rs3Of w; target = targetOf edition w }
 
 -- an instruction is a line of a program: line k, from 0
 abbrev pub instructionAt : Program → ℕ → Instruction
-instructionAt program k = instructionOf (getD (program .words) k 0)
+instructionAt program k = instructionOf (program .edition) (getD (program .words) k 0)
 
 -- "1. WB writes its value to rd, unless it is empty or holds a NOP."
 abbrev pub afterWB : ExWb → List Register → List Register

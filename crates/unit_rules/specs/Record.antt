@@ -3,11 +3,13 @@
 use Prim.Native.Nat.{ℕ, _+_, _-_, min}
 use mathlib.Core.Bool.{Bool, true, false, cond, not, _&&_, _||_}
 use lib.Dec.{eqb, leb}
+use lib.ListN.{getD}
+use Rattle.register.specs.Layout.{zeroRegister}
 use Rattle.table.specs.declared.Target.{Target}
 use Rattle.table.specs.declared.Target.the-variants.{None, To}
 use Rattle.table.specs.Refusal.{firstBad}
 use Rattle.job_rules.specs.declared.Program.{Program}
-use Rattle.job_rules.specs.Program.{linesOf}
+use Rattle.job_rules.specs.Program.{linesOf, mayHold}
 use Rattle.unit_rules.specs.declared.Instruction.{Instruction}
 use Rattle.unit_rules.specs.declared.IfId.{IfId}
 use Rattle.unit_rules.specs.declared.IfId.the-variants as IF/ID
@@ -84,10 +86,11 @@ runMade program count c fetched decoded executed = numbersMade (program .n .0) c
 abbrev pub restMade : ℕ → ℕ → IfId → IfId → IfId → Bool
 restMade count c fetched decoded executed = eqb count 0 && eqb c 0 && allEmpty fetched decoded executed
 
--- "A record is well made when ..", in either state
+-- "A record is well made when ..", in either state; in the second edition "a unit with it nonzero", register 0, is not
 unfoldable pub wellMadeOf : Unit → Bool
 wellMadeOf u =
     programMade (u .program)
+    && mayHold (u .program .edition) (getD (u .registers) 0 zeroRegister)
     && cond (u .gone)
     (runMade (u .program) (u .count .0) (u .cycle) (u .fetched) (inDecoded (u .decoded)) (inExecuted (u .executed)))
     (restMade (u .count .0) (u .cycle) (u .fetched) (inDecoded (u .decoded)) (inExecuted (u .executed)))

@@ -9,6 +9,7 @@ use lib.ListN.{getD}
 use Rattle.register.specs.declared.Register.{Register}
 use Rattle.register.specs.Layout.{zeroRegister}
 use Rattle.table.specs.declared.Count.{Count}
+use Rattle.table.specs.declared.Edition.{Edition}
 use Rattle.table.specs.declared.Pointer.{Pointer}
 use Rattle.table.specs.declared.Target.{Target}
 use Rattle.table.specs.declared.Target.the-variants.{None, To}
@@ -68,8 +69,8 @@ decodedWith IF/ID.Empty o = ID/EX.Empty
 decodedWith (IF/ID.Holds i) o = ID/EX.Holds i o
 
 -- 4. IF, with the word at the count
-abbrev pub deliveredOf : Count → Count → ℕ → IfId
-deliveredOf n k w = cond (ltb (k .0) (n .0)) (IF/ID.Holds (instructionOf w)) IF/ID.Empty
+abbrev pub deliveredOf : Edition → Count → Count → ℕ → IfId
+deliveredOf edition n k w = cond (ltb (k .0) (n .0)) (IF/ID.Holds (instructionOf edition w)) IF/ID.Empty
 
 abbrev pub nextCount : Count → Count → Count
 nextCount n k = record { 0 = countAfter (n .0) (k .0) }
@@ -92,10 +93,10 @@ unitWith u c f l = record {
 }
 
 -- all of a cycle but its write: EX, ID and IF, with what WB writes, what ID reads and the word at the count
-abbrev pub advancedOf : Count → InFlight → Write → Operands → ℕ → InFlight
-advancedOf n l w o word = record {
+abbrev pub advancedOf : Edition → Count → InFlight → Write → Operands → ℕ → InFlight
+advancedOf edition n l w o word = record {
   count = nextCount n (l .count);
-  fetched = deliveredOf n (l .count) word;
+  fetched = deliveredOf edition n (l .count) word;
   decoded = decodedWith (l .fetched) o;
   executed = executedBy w (l .decoded);
 }

@@ -48,7 +48,7 @@ pub enum ExWb {
     Holds(Instruction, Outcome),
 }
 
-// The unit: its program, the count of lines fetched, the cycles since the go, the registers, the latches, and whether it has gone since it was loaded.
+// The unit: its program, with its job's edition, the count of lines fetched, the cycles since the go, the registers, the latches, and whether it has gone since it was loaded.
 pub struct Unit {
     pub program: Program,
     pub count: Count,

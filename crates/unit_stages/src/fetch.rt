@@ -3,15 +3,16 @@
 ghost use mathlib.Core.Path.{_≡_};
 ghost use Rattle.unit_rules.specs.Stages.{deliveredOf, nextCount};
 use table::Count;
+use table::Edition;
 use unit_record::latches::instruction;
 use unit_rules::IfId;
 
 // What IF delivers at this count of a program of n lines, where `word` is the one at the count.
-pub fn delivered(n: Count, count: Count, word: u32) -> IfId
-    ensures { λ r. ⌜ r ≡ deliveredOf n count word ⌝ }
+pub fn delivered(edition: Edition, n: Count, count: Count, word: u32) -> IfId
+    ensures { λ r. ⌜ r ≡ deliveredOf edition n count word ⌝ }
 {
     if count.0 < n.0 {
-        return IfId::Holds(instruction(word));
+        return IfId::Holds(instruction(edition, word));
     }
     IfId::Empty
 }

@@ -14,6 +14,7 @@ use crate::execute::executed;
 use crate::fetch::delivered;
 use crate::fetch::next_count;
 use table::Count;
+use table::Edition;
 use unit_rules::InFlight;
 use unit_rules::Operands;
 use unit_rules::Unit;
@@ -36,15 +37,22 @@ pub fn in_flight(u: Unit) -> InFlight
 }
 
 // All of a cycle but its write: EX, ID and IF, with what WB writes, what ID reads and the word at the count.
-pub fn advanced(n: Count, flight: InFlight, write: Write, read: Operands, word: u32) -> InFlight
-    ensures { λ r. ⌜ r ≡ advancedOf n flight write read word ⌝ }
+pub fn advanced(
+    edition: Edition,
+    n: Count,
+    flight: InFlight,
+    write: Write,
+    read: Operands,
+    word: u32,
+) -> InFlight
+    ensures { λ r. ⌜ r ≡ advancedOf edition n flight write read word ⌝ }
 {
     let count = flight.count;
     let fetched = flight.fetched;
     let decoding = flight.decoded;
     InFlight {
         count: next_count(n, count),
-        fetched: delivered(n, count, word),
+        fetched: delivered(edition, n, count, word),
         decoded: decoded(fetched, read),
         executed: executed(write, decoding),
     }

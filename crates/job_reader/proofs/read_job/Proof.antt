@@ -13,4 +13,4 @@ pub read-job-spec : {M : Type 1} → this.Statement.statement M
 read-job-spec =
     this.Tie.close
     (this.Tie.spec _ (λ c. search needs) (λ c. search needs) _ _ (λ c. search (refused-header, needs))
-    (λ c κs. counts-fit _ _ _ _ (sym (c .before .before .before .read-header .ensures) ∙ c .before .header .given .1)) returns-2)
+    (λ c κs. counts-fit _ _ _ _ _ (sym (c .before .before .before .read-header .ensures) ∙ c .before .header .given .1)) returns-2)

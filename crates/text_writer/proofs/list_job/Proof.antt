@@ -9,12 +9,16 @@ returns : this.Tie.Need-returns
 returns c = file-refused _ (c .before .before .before .read-job .ensures) _ (c .before .if1 .taken) (c .refused .ensures)
 
 array-share-prefix-words : this.Tie.Need-array-share-prefix-words
-array-share-prefix-words c = lines-within _ (c .before .before .before .before .read-job .ensures) (c .before .before .if1 .left)
+array-share-prefix-words c =
+    let test = c .before .before in
+    let start = test .before .before .before .before .before in
+    lines-within (start .args .file .now) (test .before .before .read-job .ensures) (test .if1 .left)
 
 slice-aggregate-list-program : this.Tie.Need-slice-aggregate-list-program
 slice-aggregate-list-program c =
     let test = c .before .before .before in
-    sym (length-take-le _ _ (lines-within _ (test .before .before .read-job .ensures) (test .if1 .left)))
+    let start = test .before .before .before .before .before in
+    sym (length-take-le _ _ (lines-within (start .args .file .now) (test .before .before .read-job .ensures) (test .if1 .left)))
 
 returns-2 : this.Tie.Need-returns-2
 returns-2 c =

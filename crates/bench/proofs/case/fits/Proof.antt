@@ -4,10 +4,10 @@ use borrow.Author.Needs.{needs}
 use Rattle.bench.proofs.case.fits as this
 
 abbrev Inv-loop : this.Tie.InvT-loop
-Inv-loop line form i₀ i = i ≤ 13
+Inv-loop line form i₀ i = i ≤ 14
 
 abbrev μ-loop : this.Tie.MeasureT-loop
-μ-loop line form i₀ i = 13 - i
+μ-loop line form i₀ i = 14 - i
 
 pub fits-spec : {M : Type 1} → this.Statement.statement M
 fits-spec =

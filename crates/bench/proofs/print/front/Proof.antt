@@ -4,10 +4,10 @@ use borrow.Author.Needs.{needs}
 use Rattle.bench.proofs.print.front as this
 
 abbrev Inv-loop : this.Tie.InvT-loop
-Inv-loop buffer i₀ i = i ≤ 8
+Inv-loop buffer count i₀ i = i ≤ count × (count ≤ 12)
 
 abbrev μ-loop : this.Tie.MeasureT-loop
-μ-loop buffer i₀ i = 8 - i
+μ-loop buffer count i₀ i = count - i
 
 pub front-spec : {M : Type 1} → this.Statement.statement M
 front-spec =

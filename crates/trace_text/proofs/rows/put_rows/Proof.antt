@@ -7,12 +7,12 @@ use Rattle.trace_text.proofs.Loop.{row-more, rows-made}
 use Rattle.trace_text.proofs.rows.put_rows as this
 
 abbrev Inv-loop : this.Tie.InvT-loop
-Inv-loop out₀ u m words n registers₀ flight₀ made₀ out registers flight made =
+Inv-loop out₀ u m words n edition registers₀ flight₀ made₀ out registers flight made =
     (wellMadeOf u ≡ true) × (u .cycle + m ≤ lastOf (u .program .n .0)) × (rowSize * m ≤ length out₀) × (made ≤ m) × (length out ≡ length out₀)
     × (unitWith u made registers flight ≡ cyclesOf made u) × (out ≡ atFront (rowsOf made u) out₀)
 
 abbrev μ-loop : this.Tie.MeasureT-loop
-μ-loop out₀ u m words n registers₀ flight₀ made₀ out registers flight made = m - made
+μ-loop out₀ u m words n edition registers₀ flight₀ made₀ out registers flight made = m - made
 
 add-row-of-stages : this.Tie.Need-add-row-of-stages Inv-loop μ-loop
 add-row-of-stages c =

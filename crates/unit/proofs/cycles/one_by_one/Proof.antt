@@ -5,12 +5,12 @@ use Rattle.unit.proofs.Loop.{none-yet, turn, more, all-made, first-in-r
 use Rattle.unit.proofs.cycles.one_by_one as this
 
 abbrev Inv-loop : this.Tie.InvT-loop
-Inv-loop u m words n registers₀ count₀ fetched₀ decoded₀ executed₀ made₀ registers count fetched decoded executed made =
+Inv-loop u m words n edition registers₀ count₀ fetched₀ decoded₀ executed₀ made₀ registers count fetched decoded executed made =
     (wellMadeOf u ≡ true) × (made ≤ m)
     × (unitWith u made registers (record { count = count; fetched = fetched; decoded = decoded; executed = executed }) ≡ cyclesOf made u)
 
 abbrev μ-loop : this.Tie.MeasureT-loop
-μ-loop u m words n registers₀ count₀ fetched₀ decoded₀ executed₀ made₀ registers count fetched decoded executed made = m - made
+μ-loop u m words n edition registers₀ count₀ fetched₀ decoded₀ executed₀ made₀ registers count fetched decoded executed made = m - made
 
 loop-again : this.Tie.Need-loop-again Inv-loop μ-loop
 loop-again c =

@@ -10,7 +10,7 @@ use Rattle.unit.proofs.ByLines.{whole-field, in-67-cycles, in-64-lines,
 use Rattle.unit.proofs.settled.by_lines as this
 
 add-c : this.Tie.Need-add-c
-add-c c = let pre = c .before .before .before .before .pre in omega (arith, in-67-cycles _ (pre .1) _ (pre .2))
+add-c c = let pre = c .before .before .before .before .before .pre in omega (arith, in-67-cycles _ (pre .1) _ (pre .2))
 
 part-execute-lines-end : this.Tie.Need-part-execute-lines-end
 part-execute-lines-end c = search (within, in-64-lines, needs)
@@ -19,7 +19,7 @@ returns : this.Tie.Need-returns
 returns c =
     let executed = c .before .before .before .before in
     let cut = executed .before .before .before in
-    let start = cut .before .before .before .before .before .before in
+    let start = cut .before .before .before .before .before .before .before in
     let u = start .args .u in
     let fields = start .good .0 .1 .1 in
     let enough : u .program .n .0 ≤ length (u .program .words)
