@@ -112,8 +112,11 @@ written-in-edition-1 w = go (isNop w)
 -- In the second a word whose rd is 0 writes none, and every other word what it writes in the first
 pub dropped-in-edition-2 : (w : ℕ) → rdOf w .0 ≡ 0 → targetOf Two w ≡ None
 unfolding targetOf
-dropped-in-edition-2 w e = rw (eq-eqb (rdOf w .0) 0 e) (go (isNop w))
+dropped-in-edition-2 w e = rw wired (go (isNop w))
   where
+    wired : isWired Two (rdOf w) ≡ true
+    wired = eq-eqb (rdOf w .0) 0 e
+
     go : (t : Bool) → cond {A = Target} (t || true) None (To (rdOf w)) ≡ None
     go true = refl
     go false = refl

@@ -180,5 +180,5 @@ good-fetched p zero = tt
 good-fetched p (suc k) = go (ltb k (p .n .0))
   where
     go : (t : Bool) → GoodIn machine Storable (slotOf (cond t (IF/ID.Holds (instructionAt p k)) IF/ID.Empty))
-    go true = target-in-file (p .edition) (getD (p .words) k 0)
+    go true = target-in-file _ (getD (p .words) k 0)
     go false = tt
