@@ -3,7 +3,7 @@
 -- Assumes nothing.
 use Prim.Native.Nat.{ℕ, _+_, _*_, _/_, _%_, _^_, _≤_, _<_}
 use mathlib.Core.Path.{_≡_, refl, sym, ap, _∙_}
-use mathlib.Core.Bool.{Bool, true, false, cond, _&&_, false≢true}
+use mathlib.Core.Bool.{Bool, true, false, cond, and-eq-true-iff}
 use mathlib.Core.List.{List, [], _++_}
 use mathlib.Core.Logic.{_↔_}
 use native.Mathlib.Omega.{arith}
@@ -24,19 +24,15 @@ use Rattle.register.proofs.Equality.{same}
 pub zero-bits : number zeroRegister ≡ 0
 zero-bits = refl
 
-both : (a b : Bool) → (a && b) ≡ true → (a ≡ true) × (b ≡ true)
-both true b e = (refl, e)
-both false b e = absurd (false≢true e)
-
 -- it is the one register of which the test for it holds
 pub zero-exactly : (r : Register) → (isZero r ≡ true) ↔ (r ≡ zeroRegister)
 zero-exactly r = (says, λ e. ap isZero e)
   where
     says : isZero r ≡ true → r ≡ zeroRegister
     says e =
-        let a = both _ (eqb (r .w3) 0) e in
-        let b = both _ (eqb (r .w2) 0) (a .0) in
-        let c = both (eqb (r .w0) 0) (eqb (r .w1) 0) (b .0) in
+        let a = and-eq-true-iff _ (eqb (r .w3) 0) .0 e in
+        let b = and-eq-true-iff _ (eqb (r .w2) 0) .0 (a .0) in
+        let c = and-eq-true-iff (eqb (r .w0) 0) (eqb (r .w1) 0) .0 (b .0) in
         same (eqb-true (r .w0) 0 (c .0)) (eqb-true (r .w1) 0 (c .1)) (eqb-true (r .w2) 0 (b .1)) (eqb-true (r .w3) 0 (a .1))
 
 -- ---- rows and bytes

@@ -1,5 +1,6 @@
 -- A well-made record, in the documents' words as equations, and the test of it. Carried by the laws of `Positions`; the comparison of latches is equality.
 -- Assumes nothing.
+use mathlib.Core.Bool.{and-eq-true-iff}
 use Rattle.unit_rules.proofs.Shared.{ℕ, zero, suc, _+_, _-_, _≤_, _<_, min, _≡_, refl, sym, ap, _∙_, Bool, true, false, cond, _&&_, false≢true}
 use Rattle.unit_rules.proofs.Shared.{add-zero, add-suc, arith, le-leb, leb-true, leb-false, eqb-true, eq-eqb, eqb, leb, Target, None, To}
 use Rattle.unit_rules.proofs.Shared.{getD, zeroRegister, mayHold, firstBad, List, Register, Program, linesOf, IfId, Unit, fetchedIn, cycleOf, cyclesOf, inDecoded, inExecuted, isEmpty, allEmpty, drainedOf, lastOf}
@@ -23,8 +24,7 @@ pub record WellMade (u : Unit) : Type 0 where
 -- ---- the comparison of latches is equality
 
 pub both : (a b : Bool) → (a && b) ≡ true → (a ≡ true) × (b ≡ true)
-both true b e = (refl, e)
-both false b e = absurd (false≢true e)
+both a b e = and-eq-true-iff a b .0 e
 
 and-true : {a b : Bool} → a ≡ true → b ≡ true → (a && b) ≡ true
 and-true e f = rw (e, f)
