@@ -140,17 +140,24 @@ register-there l e f = f ∙ ap ofBytes e ∙ same (word 0 (omega arith)) (word 
     word : (i : ℕ) → i + 3 < 16 → wordAt (take 16 l) i ≡ wordAt l i
     word i h = rw (byte i (omega arith), byte (i + 1) (omega arith), byte (i + 2) (omega arith), byte (i + 3) (omega arith))
 
--- register 0 of register bytes: zero where they are too few for one, and else made of the first 16, which a buffer of 16 takes
-module _ (l : List ℕ) {v : Register} where
-  pub no-register : length l < 16 → v ≡ zeroRegister → v ≡ getD (registersOf (registerCount l) l) 0 zeroRegister
-  no-register h e = let none : registerCount l ≡ 0 = omega arith in rw none e
+-- register 0 of r registers: zero where there is none, and else made of the first bytes
+pub first-of-none : (r : ℕ) (l : List ℕ) → r ≡ 0 → zeroRegister ≡ getD (registersOf r l) 0 zeroRegister
+first-of-none r l none = rw none
 
-  pub first-register : {b : List ℕ} → 16 ≤ length l → b ≡ atFront (take 16 l) (replicate 16 0) → v ≡ ofBytes b
+pub first-of-some : (r : ℕ) (l : List ℕ) {v : Register} → (r ≡ 0 → ⊥) → v ≡ ofBytes l → v ≡ getD (registersOf r l) 0 zeroRegister
+first-of-some zero l some e = absurd (some refl)
+first-of-some (suc r) l some e = e
+
+-- and of register bytes: none where they are too few for one, and else the first 16, which a buffer of 16 takes
+module _ (l : List ℕ) where
+  pub too-few-bytes : length l < 16 → zeroRegister ≡ getD (registersOf (registerCount l) l) 0 zeroRegister
+  too-few-bytes h = first-of-none (registerCount l) l (omega arith)
+
+  pub first-sixteen : {v : Register} {b : List ℕ} → 16 ≤ length l → b ≡ atFront (take 16 l) (replicate 16 0) → v ≡ ofBytes b
       → v ≡ getD (registersOf (registerCount l) l) 0 zeroRegister
-  first-register h e f =
-      let some : registerCount l ≡ suc (registerCount l - 1) = omega arith in
+  first-sixteen h e f =
       let sixteen : atFront (take 16 l) (replicate 16 0) ≡ take 16 l = rw (length-take-le 16 l h) (append-nil (take 16 l)) in
-      rw some (register-there l (e ∙ sixteen) f)
+      first-of-some (registerCount l) l (λ none. omega arith) (register-there l (e ∙ sixteen) f)
 
 -- ---- a whole job
 

@@ -1,6 +1,6 @@
 -- What reader and writer answer by their tests, and what it says of a file or a job that none of them refuses it. Carried by the laws of decisions.
 -- Assumes nothing.
-use Rattle.job_rules.proofs.Shared.{ℕ, zero, suc, _+_, _*_, _%_, _≤_, _<_, _≡_, refl, sym, ap, _∙_, List, [], _∷_, Bool, true, false, cond, not, arith}
+use Rattle.job_rules.proofs.Shared.{ℕ, _+_, _*_, _%_, _≤_, _<_, _≡_, refl, sym, ap, _∙_, List, Bool, true, false, cond, not, arith}
 use Rattle.job_rules.proofs.Shared.{eq-eqb, ne-eqb, ltb-false, eqb-true, not-false, eqb, length, getD, take, drop, take-at, atFront, Register}
 use Rattle.job_rules.proofs.Shared.{zeroRegister, wordAt, ofBytes, Edition, One, Two, WORD, NONZERO, firstBad, Counts, Refused, Job, ReadJob, Written}
 use Rattle.job_rules.proofs.Shared.{instructionsAt, registersAt, sizeOf, registerCount, encode, twoAt, editionIn, saysEdition, wordsIn}
@@ -81,14 +81,6 @@ counts-fit edition l of n r e =
     registers (Refused k) = 0
 
 -- ---- the body
-
--- register 0, zero where the file has none
-pub no-first : (r : ℕ) (l : List ℕ) → r ≡ 0 → zeroRegister ≡ getD (registersOf r l) 0 zeroRegister
-no-first r l none = rw none
-
-pub the-first-one : (r : ℕ) (l : List ℕ) {v : Register} → (r ≡ 0 → ⊥) → v ≡ ofBytes l → v ≡ getD (registersOf r l) 0 zeroRegister
-the-first-one zero l some e = absurd (some refl)
-the-first-one (suc r) l some e = e
 
 module _ (edition : Edition) (l : List ℕ) (n r : ℕ) {at : ℕ} {words : List ℕ} {bad : ℕ} (there : at ≡ instructionsAt edition)
     (read : words ≡ filled 64 0 (wordsIn n (drop at l))) (first : bad ≡ firstBad (take n words)) where

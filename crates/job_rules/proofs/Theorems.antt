@@ -2,7 +2,7 @@
 -- accepted exactly when the writer gives it, in either edition; what the editions have to do with one another; and that the first is document 01's. All of
 -- it over what the two calls promise, `writeOf` and `readOf`.
 -- Assumes nothing.
-use Rattle.job_rules.proofs.Shared.{ℕ, filled, _≤_, _+_, _*_, le-refl, arith, _≡_, refl, sym, ap, subst, _∙_, Bool, true, false, not, _||_, List, []}
+use Rattle.job_rules.proofs.Shared.{ℕ, filled, _≤_, _+_, _*_, le-refl, arith, _≡_, refl, sym, ap, _∙_, Bool, true, false, not, _||_, List, []}
 use Rattle.job_rules.proofs.Shared.{_∷_, flatMap, ne-eqb, ltb, eqb, length, getD, take, drop, replicate, take-append-seam, atFront, Register}
 use Rattle.job_rules.proofs.Shared.{zeroRegister, bytesOf, Edition, One, Two, PLACE, firstBad, Counts, Refused, Job, ReadJob, Written, Bytes}
 use Rattle.job_rules.proofs.Shared.{instructionsAt, LARGEST, registersAt, sizeOf, registerCount, encode, twoAt, editionIn, wordsIn, registersOf}
@@ -149,15 +149,16 @@ first-readers-answer-4 l e =
     let answer : Refused PLACE ≡ headerOf One l = search deciding depth 12 in
     sym (ap (answerFor l) answer)
 
--- "There, register 0 is zero from load on": in an accepted job of the second edition it is the zero register, read or written.
-zero-where-wired : (r : Register) → mayHold Two r ≡ true → r ≡ zeroRegister
-zero-where-wired r e = zero-exactly r .0 e
+-- "There, register 0 is zero from load on": all that it may hold is zero,
+pub held-zero : (edition : Edition) (r : Register) → edition ≡ Two → mayHold edition r ≡ true → r ≡ zeroRegister
+held-zero edition r second h = zero-exactly r .0 (sym (ap (λ (e : Edition). mayHold e r) second) ∙ h)
 
 -- register 0 of the 32, zero where the file has none
 first-filled : (l : List Register) → getD (filled 32 zeroRegister l) 0 zeroRegister ≡ getD l 0 zeroRegister
 first-filled [] = refl
 first-filled (x ∷ l) = refl
 
+-- and so it is in an accepted job, read or written.
 pub register-0-read : (l : List ℕ) → readOf l .refusal ≡ 0 → readOf l .job .program .edition ≡ Two
     → getD (readOf l .job .registers) 0 zeroRegister ≡ zeroRegister
 register-0-read l e of =
@@ -165,12 +166,11 @@ register-0-read l e of =
     let registers : List Register = registersOf (twoAt l 2) (drop (registersAt (editionIn l) (twoAt l 0)) l) in
     ap (λ (v : ReadJob). getD (v .job .registers) 0 zeroRegister) (read (editionIn l) l a)
     ∙ first-filled registers
-    ∙ zero-where-wired (getD registers 0 zeroRegister)
-    (subst (λ (edition : Edition). mayHold edition (getD registers 0 zeroRegister) ≡ true) (sym (read-edition l e) ∙ of) (a .held))
+    ∙ held-zero (editionIn l) (getD registers 0 zeroRegister) (sym (read-edition l e) ∙ of) (a .held)
 
 pub register-0-written : (words bytes out : List ℕ) → writeOf Two words bytes out .0 .refusal ≡ 0
     → getD (registersOf (registerCount bytes) bytes) 0 zeroRegister ≡ zeroRegister
-register-0-written words bytes out e = zero-where-wired _ (accepts Two words bytes out e .job .held)
+register-0-written words bytes out e = held-zero Two _ refl (accepts Two words bytes out e .job .held)
 
 -- ---- "Edition 1 .. is untouched"
 

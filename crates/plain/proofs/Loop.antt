@@ -89,6 +89,9 @@ pub record Given (edition : Edition) (p : List ℕ) (i : ℕ) (f : List Register
 
 module _ {edition : Edition} {p : List ℕ} {i : ℕ} {f : List Register} {m : List ℕ} {g : List Register} {n : List ℕ} {d : Pointer} {o : Outcome} {s : List ℕ}
     (line : Given edition p i f m g n d o s) where
+  pub in-file : d .0 < 32
+  in-file = omega (arith, ap (λ (q : Pointer). q .0) (line .at))
+
   after : {h : List Register} → h ≡ step edition (getD p i 0) g → Done edition p (i + 1) f m h s
   after e = record {
     registers-left = e

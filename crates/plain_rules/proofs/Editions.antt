@@ -1,25 +1,21 @@
 -- The plain machine in each edition: in the first nothing is cleared, and in the second register 0 is zero from the first line on, so that every line reads zero
--- there. Carried by `never-to-0`: no word writes register 0 in the second edition.
+-- there. Carried by `never-to-0`, which is `each-target` of the table in the second edition.
 -- Assumes nothing.
 use Prim.Native.Nat.{ℕ, suc, _<_, _≤_}
 use mathlib.Core.Path.{_≡_, refl, sym, ap, _∙_}
-use mathlib.Core.Bool.{Bool, true, false, cond, _||_}
-use mathlib.Core.List.{List, [], _∷_, map}
+use mathlib.Core.List.{List, [], _∷_}
 use native.Mathlib.Omega.{arith}
 use borrow.Author.Tests.{eqb-false}
-use lib.Dec.{eqb}
-use lib.ListN.{getD, set, take, length}
+use lib.ListN.{getD, take, length}
 use lib.Seq.{getD-set-same, getD-set-other}
 use Rattle.register.specs.declared.Register.{Register}
 use Rattle.register.specs.Layout.{zeroRegister, rowOf, ofRow}
-use Rattle.table.specs.declared.Edition.{Edition}
 use Rattle.table.specs.declared.Edition.the-variants.{One, Two}
 use Rattle.table.specs.declared.Target.{Target}
-use Rattle.table.specs.declared.Target.the-variants.{None, To}
 use Rattle.table.specs.Fields.{rdOf}
-use Rattle.table.specs.Operation.{isNop, targetOf}
+use Rattle.table.specs.Operation.{targetOf}
 use Rattle.table.specs.Refusal.{firstBad}
-use Rattle.table.proofs.Decided.{neither-held}
+use Rattle.table.proofs.Theorems.{each-target}
 use Rattle.plain_rules.specs.declared.ExecutedProgram.{ExecutedProgram}
 use Rattle.plain_rules.specs.Machine.{stored, clearedFor, stepOn, plainOn, plainRows, clearedRows}
 use Rattle.plain_rules.specs.Answer.{executeAllOf}
@@ -41,14 +37,9 @@ others-not-cleared x d f i = getD-set-other f 0 (suc i) x d (λ e. omega arith)
 -- ---- what is never written
 
 pub never-to-0 : {A : Type 0} (w : ℕ) (v d : A) (f : List A) → getD (stored (targetOf Two w) v f) 0 d ≡ getD f 0 d
-unfolding targetOf
-never-to-0 {A} w v d f = go (isNop w || eqb (rdOf w .0) 0) refl
-  where
-    go : (t : Bool) → (isNop w || eqb (rdOf w .0) 0) ≡ t → getD (stored (cond t None (To (rdOf w))) v f) 0 d ≡ getD f 0 d
-    go true q = refl
-    go false q =
-        let other = eqb-false (rdOf w .0) 0 (neither-held (isNop w) (eqb (rdOf w .0) 0) q .1) in
-        getD-set-other f (rdOf w .0) 0 v d (λ e. other (sym e))
+never-to-0 w v d f =
+    each-target (λ (t : Target). getD (stored t v f) 0 d ≡ getD f 0 d) Two w refl
+    (λ free. getD-set-other f (rdOf w .0) 0 v d (λ e. eqb-false (rdOf w .0) 0 free (sym e)))
 
 module _ {A : Type 0} (read : A → Register) (make : Register → A) (none : A) where
   -- so a program leaves register 0 as it was

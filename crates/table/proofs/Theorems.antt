@@ -3,7 +3,7 @@
 -- Assumes nothing.
 use Prim.Native.Nat.{ℕ, zero, suc, _<_}
 use mathlib.Core.Path.{_≡_, refl, sym, ap, _∙_}
-use mathlib.Core.Bool.{Bool, true, false, cond, _||_, true≢false}
+use mathlib.Core.Bool.{Bool, true, false, cond, _||_, or-false}
 use mathlib.Core.List.{List, [], _∷_, map}
 use native.Mathlib.Omega.{arith}
 use lib.Dec.{eqb, eqb·suc-zero}
@@ -17,6 +17,7 @@ use Rattle.table.specs.Fields.{isLi, isMultiply, isLong, isSubtract, isH
 use Rattle.table.specs.Operation.{Operation, multiplyRow, shortRows, operationOf, readsOf, takesFirst, takesSecond, takesThird, isNop, isWired, targetOf}
 use Rattle.table.specs.Operation.Operation.{li, simal, simah, simsl, simsh, slmal, slmah, slmsl, slmsh}
 use Rattle.table.specs.Refusal.{SHORT, COUNT, REGS, PLACE, LENGTH, WORD, POINTER, DRAINED, ROOM, STATE, NAME, OPERANDS, LINES, EDITION, NONZERO, BUSY}
+use Rattle.table.proofs.Decided.{the-second, neither-held}
 use Rattle.table.proofs.Rows.{each-choice}
 use Rattle.table.specs.Operation.Operation.{nop, shrhi, au, cntih, ahs, or, bcw, maxws, minws, mlhu, mlhcu, and, clzw, rotw, sfwu, sfhs}
 
@@ -103,27 +104,25 @@ writes-by-operation edition w = ap (λ (t : Bool). cond (t || isWired edition (r
 -- "Edition 1 .. is untouched": rd, or none for a NOP
 pub written-in-edition-1 : (w : ℕ) → targetOf One w ≡ cond (isNop w) None (To (rdOf w))
 unfolding targetOf
-written-in-edition-1 w = go (isNop w)
-  where
-    go : (t : Bool) → cond {A = Target} (t || false) None (To (rdOf w)) ≡ cond t None (To (rdOf w))
-    go true = refl
-    go false = refl
+written-in-edition-1 w = ap (λ (t : Bool). cond t None (To (rdOf w))) (or-false (isNop w))
 
 -- In the second a word whose rd is 0 writes none, and every other word what it writes in the first
 pub dropped-in-edition-2 : (w : ℕ) → rdOf w .0 ≡ 0 → targetOf Two w ≡ None
 unfolding targetOf
-dropped-in-edition-2 w e = rw wired (go (isNop w))
-  where
-    wired : isWired Two (rdOf w) ≡ true
-    wired = eq-eqb (rdOf w .0) 0 e
-
-    go : (t : Bool) → cond {A = Target} (t || true) None (To (rdOf w)) ≡ None
-    go true = refl
-    go false = refl
+dropped-in-edition-2 w e = ap (λ (t : Bool). cond t None (To (rdOf w))) (the-second (isNop w) (eq-eqb (rdOf w .0) 0 e))
 
 pub others-in-edition-2 : (w : ℕ) → (rdOf w .0 ≡ 0 → ⊥) → targetOf Two w ≡ targetOf One w
 unfolding targetOf
 others-in-edition-2 w h = rw (ne-eqb (rdOf w .0) 0 h)
+
+-- in either: what holds of none, and of rd where it is not wired, holds of what a word writes
+pub each-target : (P : Target → Type 0) (edition : Edition) (w : ℕ) → P None → (isWired edition (rdOf w) ≡ false → P (To (rdOf w))) → P (targetOf edition w)
+unfolding targetOf
+each-target P edition w none some = go (isNop w || isWired edition (rdOf w)) refl
+  where
+    go : (t : Bool) → (isNop w || isWired edition (rdOf w)) ≡ t → P (cond t None (To (rdOf w)))
+    go true q = none
+    go false q = some (neither-held (isNop w) (isWired edition (rdOf w)) q .1)
 
 -- ---- refusal numbers
 

@@ -19,7 +19,7 @@ use Rattle.table.proofs.Decided.{none-refused, passes, apart, ends}
 use Rattle.job_rules.specs.declared.ReadJob.{ReadJob}
 use Rattle.job_rules.specs.declared.Written.{Written}
 use Rattle.table.specs.declared.Edition.{Edition}
-use Rattle.job_rules.specs.Layout.{bytesToRead, registerCount, registersOf}
+use Rattle.job_rules.specs.Layout.{bytesToRead}
 use Rattle.job_rules.specs.Program.{linesOf}
 use Rattle.job_rules.specs.Write.{writtenOf, writeOf}
 use Rattle.job_rules.proofs.Theorems.{read-written}
@@ -104,23 +104,22 @@ listed-read text out is room =
     program-listed words out (words-program text) (omega (arith, ap length is))
     ∙ ap (λ (l : List ℕ). (writtenOf 0 0 (length l), atFront l out)) (sym is)
 
--- The first 781 bytes of a job file decide its listing.
+-- a job file is listed by what is read of it
+abbrev listedBy : List ℕ → ReadJob → Written × List ℕ
+listedBy out read =
+    decided ((not (eqb (read .refusal) 0), (writtenOf (read .refusal) (read .place) 0, out)) ∷ []) (listOf (linesOf (read .job .program)) out)
+
+-- So its first 781 bytes decide its listing.
 pub first-781-bytes : (file out : List ℕ) → listJobOf (take bytesToRead file) out ≡ listJobOf file out
 unfolding listJobOf
-first-781-bytes file out =
-    ap (λ (read : ReadJob).
-    decided ((not (eqb (read .refusal) 0), (writtenOf (read .refusal) (read .place) 0, out)) ∷ []) (listOf (linesOf (read .job .program)) out))
-    (of-a-job.first-781-bytes file)
+first-781-bytes file out = ap (listedBy out) (of-a-job.first-781-bytes file)
 
 -- A job that was written in either edition lists the lines of its words: the edition is no part of the text.
 pub edition-not-listed : (edition : Edition) (words bytes buffer out : List ℕ) → (let w = writeOf edition words bytes buffer in
     w .0 .refusal ≡ 0 → listJobOf (take (w .0 .size) (w .1)) out ≡ listOf words out)
 unfolding listJobOf
 edition-not-listed edition words bytes buffer out e =
-    let registers = registersOf (registerCount bytes) bytes in
-    ap (λ (read : ReadJob).
-    decided ((not (eqb (read .refusal) 0), (writtenOf (read .refusal) (read .place) 0, out)) ∷ []) (listOf (linesOf (read .job .program)) out))
-    (read-written edition words bytes buffer e)
+    ap (listedBy out) (read-written edition words bytes buffer e)
     ∙ sym (passes _ _ _ refl ends)
     ∙ ap (λ (l : List ℕ). listOf l out) (take-append-seam words _)
 

@@ -7,7 +7,7 @@ pub use Rattle.row_rules.specs.Text.{rowText, rowSize, digit, newline}
 unfoldable pub use Rattle.row_rules.specs.Text.{rowAt, twoDigits}
 pub use Rattle.row_rules.proofs.Theorems.{row-fits, row-size}
 pub use Rattle.unit_rules.specs.declared.Unit.{Unit}
-pub use Rattle.unit_rules.proofs.WellMade.{well-made-says, last-small, well-made-test}
+pub use Rattle.unit_rules.proofs.WellMade.{well-made-says, last-small}
 pub use Rattle.unit_rules.proofs.Loading.{load-reads, go-begins}
 pub use Rattle.unit_rules.proofs.Calls.{ran, well-made-after}
 pub use Rattle.unit_rules.proofs.Theorems.{fresh-drained}

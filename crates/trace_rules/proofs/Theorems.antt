@@ -2,7 +2,7 @@
 -- Assumes nothing.
 use Rattle.unit_rules.proofs.Shared.{ℕ, zero, suc, _+_, _-_, _<_, _≤_, _≡_, refl, sym, ap, subst, _∙_, _⊎_, ⊎-elim, Bool, true, false, cond, _&&_, _||_}
 use Rattle.unit_rules.proofs.Shared.{and-false, List, arith, leb-false, lt-ltb, lt-leb, le-leb, ltb-true, ltb-false, leb, ltb, length, take, STATE, DRAINED, ROOM, Register, Pointer, Target, None, isLi}
-use Rattle.unit_rules.proofs.Shared.{rdOf, firstOf, rs2Of, rs3Of, Operation, operationOf, readsOf, takesFirst, takesSecond, takesThird, isNop, isWired, targetOf, stored, Edition, One, Two}
+use Rattle.unit_rules.proofs.Shared.{rdOf, firstOf, rs2Of, rs3Of, Operation, operationOf, readsOf, takesFirst, takesSecond, takesThird, isNop, isWired, targetOf, stored, Edition, Two}
 use Rattle.unit_rules.proofs.Shared.{plain, linesOf, instructionOf, instructionAt, fetchedIn, isTarget, newest, readBy, newestOperands, afterWB, afterEX, cycleOf, inDecoded}
 use Rattle.unit_rules.proofs.Shared.{false≢true, map, getD, rowOf, inExecuted, decodedWith, lastOf, drainedOf, wellMadeOf, goOf, cycledOf, Whole, afterCalls, unitAfter, madeUnless, cyclesIn}
 use Rattle.table.specs.declared.Target.the-variants.{To as ToRegister}

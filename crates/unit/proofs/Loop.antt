@@ -1,8 +1,8 @@
 -- The loop over cycles: its locals, put together, are the unit after so many cycles. Carried by the laws of the stages, a turn at a time; the indices are in range
 -- because a well-made unit's latches hold instructions of its program.
 -- Assumes nothing.
-use Rattle.unit_rules.proofs.Shared.{ℕ, zero, suc, _+_, _-_, _%_, _≤_, _<_, _≡_, refl, sym, ap, subst, _∙_, Bool, true, false, cond, _||_, List, add-assoc, add-zero}
-use Rattle.unit_rules.proofs.Shared.{add-one, arith, ltb, getD, set, Register, zeroRegister, Target, None, To, isLi, rdOf, rs1Of, firstOf, isNop, isWired, Edition}
+use Rattle.unit_rules.proofs.Shared.{ℕ, zero, suc, _+_, _-_, _%_, _≤_, _<_, _≡_, refl, sym, ap, subst, _∙_, Bool, true, false, cond, List, add-assoc, add-zero}
+use Rattle.unit_rules.proofs.Shared.{add-one, arith, ltb, getD, set, Register, zeroRegister, Target, None, To, isLi, rdOf, rs1Of, firstOf, Edition}
 use Rattle.unit_rules.proofs.Shared.{targetOf, instructionOf, instructionAt, fetchedIn, afterWB, afterID, cycleOf, cyclesOf, inExecuted, wellMadeOf, writeTo}
 use Rattle.unit_rules.proofs.Shared.{writeOf, sourcesOf, readAt, decodedWith, inFlightOf, unitWith, advancedOf}
 use Rattle.job_rules.specs.declared.Program.{Program}
@@ -11,6 +11,7 @@ use Rattle.unit_rules.specs.declared.IfId.the-variants as IF/ID
 use Rattle.unit_rules.specs.declared.ExWb.{ExWb}
 use Rattle.unit_rules.specs.declared.ExWb.the-variants as EX/WB
 use Rattle.unit_rules.specs.declared.Unit.{Unit}
+use Rattle.table.proofs.Theorems.{each-target}
 use Rattle.unit_rules.proofs.Positions.{Placed, placed-cycles}
 use Rattle.unit_rules.proofs.WellMade.{well-made-says}
 use Rattle.unit_rules.specs.declared.Write.{Write}
@@ -63,16 +64,15 @@ pub record Small (z : IfId) : Type 0 where
   pub target : targetIn z < 32
 
 small-word : (edition : Edition) (w : ℕ) → Small (IF/ID.Holds (instructionOf edition w))
-unfolding firstOf targetOf
-small-word edition w = record { first = first (isLi w); second = omega arith; third = omega arith; target = target (isNop w || isWired edition (rdOf w)) }
+unfolding firstOf
+small-word edition w = record { first = first (isLi w); second = omega arith; third = omega arith; target = target }
   where
     first : (t : Bool) → cond t (rdOf w) (rs1Of w) .0 < 32
     first true = omega arith
     first false = omega arith
 
-    target : (t : Bool) → writeTo (cond t None (To (rdOf w))) zeroRegister .at .0 < 32
-    target true = omega arith
-    target false = omega arith
+    target : writeTo (targetOf edition w) zeroRegister .at .0 < 32
+    target = each-target (λ (t : Target). writeTo t zeroRegister .at .0 < 32) edition w (omega arith) (λ _. omega arith)
 
 small-none : Small IF/ID.Empty
 small-none = record { first = omega arith; second = omega arith; third = omega arith; target = omega arith }

@@ -1,11 +1,11 @@
 -- The unit as a pipeline, cycle by cycle. Carried by `outcome-gated`: an operand that the table says is not read has no effect, so it does not matter that nothing
 -- is forwarded to it.
 -- Assumes nothing.
-use Rattle.unit_rules.proofs.Shared.{ℕ, zero, suc, _+_, _≤_, _<_, _≡_, refl, sym, ap, _∙_, Bool, true, false, cond, _&&_, _||_, List}
+use Rattle.unit_rules.proofs.Shared.{ℕ, zero, suc, _+_, _≤_, _<_, _≡_, refl, sym, ap, _∙_, Bool, true, false, cond, _&&_, List}
 use Rattle.unit_rules.proofs.Shared.{arith, eqb-true, eqb-false, eqb, ltb, getD, set, length-set}
 use Rattle.unit_rules.proofs.Shared.{getD-set-same, getD-set-other, Register, zeroRegister}
-use Rattle.unit_rules.proofs.Shared.{Pointer, Target, None, To, rdOf, operationOf, readsOf, takesFirst, takesSecond}
-use Rattle.unit_rules.proofs.Shared.{takesThird, isNop, isWired, targetOf, stored, IfId, Edition}
+use Rattle.unit_rules.proofs.Shared.{Pointer, Target, None, To, operationOf, readsOf, takesFirst, takesSecond}
+use Rattle.unit_rules.proofs.Shared.{takesThird, targetOf, stored, IfId, Edition}
 use Rattle.unit_rules.proofs.Shared.{IdEx, ExWb, Program, Unit, instructionAt, fetchedIn, given, afterWB, isTarget, newestOperands, operandsIn}
 use Rattle.unit_rules.proofs.Shared.{afterEX, afterID, afterIF, cycleOf, cyclesOf, inFlightOf, Whole}
 use Rattle.unit_rules.proofs.Shared.IF/ID
@@ -14,6 +14,7 @@ use Rattle.unit_rules.proofs.Shared.EX/WB
 use Rattle.alu_rules.specs.declared.Outcome.{Outcome}
 use Rattle.alu_rules.specs.Result.{outcomeOf}
 use Rattle.alu_rules.proofs.Rows.{gate, outcome-gated}
+use Rattle.table.proofs.Theorems.{each-target}
 use Rattle.pipeline.proofs.Stages.{Slot, Stages, Latched, Pipe, Lawful, GoodIn, throughWB, throughEX, throughID, cycled, cycledAll}
 use Rattle.pipeline.proofs.Stages.Slot.{empty, holds}
 use Rattle.unit_rules.specs.declared.Operands.{Operands}
@@ -44,12 +45,7 @@ abbrev pub Storable : Instruction → Type 0
 Storable i = InFile (i .target)
 
 pub target-in-file : (edition : Edition) (w : ℕ) → InFile (targetOf edition w)
-unfolding targetOf
-target-in-file edition w = go (isNop w || isWired edition (rdOf w))
-  where
-    go : (t : Bool) → InFile (cond t None (To (rdOf w)))
-    go true = omega arith
-    go false = omega arith
+target-in-file edition w = each-target InFile edition w (omega arith) (λ _. omega arith)
 
 -- one operand: where it is read, the newest is what stands in the file after the write
 newest-is : (reads : Bool) (t : Target) (p : Pointer) (v : Register) (f : List Register) → InFile t → Whole f

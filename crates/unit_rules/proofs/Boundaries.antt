@@ -163,14 +163,6 @@ state-first = refl
 
 -- ---- register 0 in each edition
 
--- an edition by its number
-abbrev numberIn : Edition → ℕ
-numberIn One = 1
-numberIn Two = 2
-
-pub fresh-edition : numberIn (freshOf .program .edition) ≡ 1
-fresh-edition = refl
-
 -- "a unit with it nonzero gets 10" from every call, before all else, whether it has gone or not
 abbrev refusals : Unit → List ℕ
 refusals u =
@@ -219,6 +211,11 @@ wrongBytes = 0 ∷ 0 ∷ 0 ∷ 0 ∷ 12 ∷ 0 ∷ 12 ∷ 0 ∷ 1 ∷ 0 ∷ 0 ∷
 
 abbrev nonzero : List ℕ
 nonzero = fileIn Two 1 (7 ∷ replicate 15 0)
+
+-- an edition by its number
+abbrev numberIn : Edition → ℕ
+numberIn One = 1
+numberIn Two = 2
 
 -- the unit has the edition of the file that it loaded, and keeps its own where the file is refused
 pub loaded-edition : map (λ (file : List ℕ). map (λ (edition : Edition). numberIn (loadOf file (before edition) .unit .program .edition)) (One ∷ Two ∷ []))

@@ -1,28 +1,25 @@
 -- The unit in each edition. In the second register 0 is zero after every call, a write to it is dropped and not forwarded, and every read of it gives zero; the first is
 -- untouched. Carried by the laws of `Wired`, and by demand 3, which tells the latched values.
 -- Assumes nothing.
-use Rattle.unit_rules.proofs.Shared.{ℕ, _-_, _≤_, _≡_, refl, sym, ap, _∙_, Bool, true, false, cond, false≢true, List, getD, Register, zeroRegister, Edition, One, Two, Pointer}
-use Rattle.unit_rules.proofs.Shared.{None, To, rdOf, firstOf, isLi, isNop, clearedFor, plain, take, Program, linesOf, unitWith, IfId, IdEx, Unit, instructionOf, fetchedIn, afterWB, newest, newestOperands, operandsIn}
+use Rattle.unit_rules.proofs.Shared.{ℕ, _-_, _≤_, _≡_, refl, sym, ap, _∙_, Bool, true, false, false≢true, List, getD, Register, zeroRegister, Edition, One, Two, Pointer}
+use Rattle.unit_rules.proofs.Shared.{rdOf, firstOf, isLi, clearedFor, plain, take, Program, linesOf, unitWith, IfId, IdEx, Unit, instructionOf, fetchedIn, afterWB, newest, newestOperands, operandsIn}
 use Rattle.unit_rules.proofs.Shared.{afterID, lastOf, wellMadeOf, freshOf, goOf, registersSet, registersLoaded, Job, Whole, afterCalls, Call, unitAfter, unitAfterAll}
 use Rattle.unit_rules.proofs.Shared.IF/ID
 use Rattle.unit_rules.proofs.Shared.ID/EX
-use Rattle.table.proofs.Theorems.{written-in-edition-1}
+use Rattle.job_rules.proofs.Theorems.{held-zero}
 use Rattle.unit_rules.specs.declared.Instruction.{Instruction}
 use Rattle.unit_rules.specs.declared.Operands.{Operands}
 use Rattle.unit_rules.specs.Settled.{settledFlight}
-use Rattle.unit_rules.proofs.Wired.{newest-of-0, left-by-WB, held-zero}
+use Rattle.unit_rules.proofs.Wired.{newest-of-0, left-by-WB}
 use Rattle.unit_rules.proofs.WellMade.{well-made-says}
 use Rattle.unit_rules.proofs.Theorems.{go-keeps, kept-well-made, reached-well-made}
 use Rattle.unit_rules.proofs.Demand3.{demand3-unit, demand3-well-made}
 
 -- ---- the first edition
 
--- "Edition 1, which a fresh unit has": and what it writes, clears and asks of a record is document 01's
+-- "Edition 1, which a fresh unit has": and what it clears and asks of a record is document 01's
 pub edition-1-fresh : freshOf .program .edition ≡ One
 edition-1-fresh = refl
-
-pub edition-1-writes : (w : ℕ) → instructionOf One w .target ≡ cond (isNop w) None (To (rdOf w))
-edition-1-writes = written-in-edition-1
 
 pub edition-1-loads : (j : Job) (f : List Register) → j .program .edition ≡ One → registersLoaded j f ≡ registersSet (j .r) (j .registers) f
 edition-1-loads j f first = ap (λ (e : Edition). clearedFor e zeroRegister (registersSet (j .r) (j .registers) f)) first

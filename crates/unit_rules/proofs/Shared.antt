@@ -2,7 +2,7 @@
 -- Assumes nothing.
 pub use Prim.Native.Nat.{ℕ, zero, suc, _-_, _≤_, _<_, min, _+_, _%_, _*_, _^_}
 pub use mathlib.Core.Path.{_≡_, refl, sym, ap, _∙_, subst}
-pub use mathlib.Core.Bool.{Bool, true, false, cond, not, _&&_, _||_, false≢true, true≢false, and-false}
+pub use mathlib.Core.Bool.{Bool, true, false, cond, not, _&&_, _||_, false≢true, and-false}
 pub use mathlib.Core.List.{List, [], _∷_, map, _++_, map-id}
 pub use mathlib.Core.Logic.{_↔_, ⊎-elim, _⊎_}
 pub use native.Mathlib.Numerals.{add-one}

@@ -1,15 +1,15 @@
 -- Register 0 where a program's edition wires it: what is latched behind EX never names it as a target, so that a cycle leaves it. Carried by `never-to-0` of
 -- plain_rules.
 -- Assumes nothing.
-use Rattle.unit_rules.proofs.Shared.{ℕ, zero, suc, _-_, _≡_, refl, sym, ap, _∙_, Bool, true, false, cond, _||_, _&&_, and-false, false≢true, List, [], _∷_, map}
-use Rattle.unit_rules.proofs.Shared.{ltb, eqb, eqb-false, ne-eqb, eq-eqb, getD, set, Register, zeroRegister, rowOf, Edition, One, Two, Pointer, Target, None, To, rdOf, isNop, isWired, targetOf}
+use Rattle.unit_rules.proofs.Shared.{ℕ, zero, suc, _-_, _≡_, refl, sym, ap, _∙_, Bool, true, false, cond, and-false, false≢true, List, [], _∷_, map}
+use Rattle.unit_rules.proofs.Shared.{ltb, getD, Register, zeroRegister, rowOf, Edition, One, Two, Pointer, Target, targetOf}
 use Rattle.unit_rules.proofs.Shared.{stored, clearedFor, clearedRows, Program, mayHold, IfId, ExWb, Unit, instructionAt, fetchedIn, afterWB, isTarget, newest, cycleOf, cyclesOf}
 use Rattle.unit_rules.proofs.Shared.{inExecuted, isEmpty}
 use Rattle.unit_rules.proofs.Shared.IF/ID
 use Rattle.unit_rules.proofs.Shared.EX/WB
-use Rattle.register.proofs.Theorems.{zero-exactly}
+use Rattle.table.proofs.Theorems.{each-target}
+use Rattle.job_rules.proofs.Theorems.{held-zero}
 use Rattle.plain_rules.proofs.Editions.{never-to-0}
-use Rattle.table.proofs.Decided.{neither-held}
 use Rattle.unit_rules.specs.declared.Instruction.{Instruction}
 use Rattle.unit_rules.proofs.Positions.{Placed, placed-cycles, cycles-program}
 
@@ -30,12 +30,7 @@ fetched-line p (suc k) i e = go (ltb k (p .n .0)) e
 
 -- and in the second edition its target is not register 0
 not-the-target : (w : ℕ) (q : Pointer) → q .0 ≡ 0 → isTarget (targetOf Two w) q ≡ false
-unfolding targetOf
-not-the-target w q e = go (isNop w || eqb (rdOf w .0) 0) refl
-  where
-    go : (t : Bool) → (isNop w || eqb (rdOf w .0) 0) ≡ t → isTarget (cond t None (To (rdOf w))) q ≡ false
-    go true h = refl
-    go false h = rw e (neither-held (isNop w) (eqb (rdOf w .0) 0) h .1)
+not-the-target w q e = each-target (λ (t : Target). isTarget t q ≡ false) Two w refl (λ free. rw e free)
 
 module _ (p : Program) (second : p .edition ≡ Two) (c : ℕ) where
   pub not-0 : (i : Instruction) → IF/ID.Holds i ≡ fetchedIn p c → (q : Pointer) → q .0 ≡ 0 → isTarget (i .target) q ≡ false
@@ -48,11 +43,7 @@ module _ (p : Program) (second : p .edition ≡ Two) (c : ℕ) where
   -- so EX takes nothing for it from WB
   pub newest-of-0 : (x : ExWb) → inExecuted x ≡ fetchedIn p c → (reads : Bool) (q : Pointer) → q .0 ≡ 0 → (latched : Register) → newest x reads q latched ≡ latched
   newest-of-0 EX/WB.Empty e reads q z latched = refl
-  newest-of-0 (EX/WB.Holds i o) e reads q z latched = rw (not-0 i e q z) (go reads)
-    where
-      go : (t : Bool) → cond (t && false) (o .value) latched ≡ latched
-      go true = refl
-      go false = refl
+  newest-of-0 (EX/WB.Holds i o) e reads q z latched = rw (not-0 i e q z, and-false reads)
 
   -- and WB leaves it as it was
   pub left-by-WB : (x : ExWb) → inExecuted x ≡ fetchedIn p c → (f : List Register) → getD (afterWB x f) 0 zeroRegister ≡ getD f 0 zeroRegister
@@ -63,22 +54,14 @@ module _ (p : Program) (second : p .edition ≡ Two) (c : ℕ) where
       ∙ ap (λ (edition : Edition). getD (stored (targetOf edition (getD (p .words) (line .0) 0)) (o .value) f) 0 zeroRegister) second
       ∙ never-to-0 (getD (p .words) (line .0) 0) (o .value) zeroRegister f
 
--- ---- what register 0 may hold
+-- ---- what register 0 may hold: what a cleared file has there
 
--- in the first edition anything, in the second zero
-pub held-in-edition-1 : (r : Register) → mayHold One r ≡ true
-held-in-edition-1 r = refl
-
-pub held-zero : (edition : Edition) (r : Register) → edition ≡ Two → mayHold edition r ≡ true → r ≡ zeroRegister
-held-zero edition r second h = zero-exactly r .0 (sym (ap (λ (e : Edition). mayHold e r) second) ∙ h)
-
--- so it may hold it once it is cleared
 pub cleared-held : (edition : Edition) (f : List Register) → mayHold edition (getD (clearedFor edition zeroRegister f) 0 zeroRegister) ≡ true
 cleared-held One f = refl
 cleared-held Two [] = refl
 cleared-held Two (x ∷ f) = refl
 
--- and clearing changes nothing where it holds that already
+-- clearing changes nothing where it holds that already
 pub cleared-already : (edition : Edition) (f : List Register) → mayHold edition (getD f 0 zeroRegister) ≡ true → clearedRows edition (map rowOf f) ≡ map rowOf f
 cleared-already One f h = refl
 cleared-already Two [] h = refl

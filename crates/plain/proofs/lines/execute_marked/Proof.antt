@@ -10,7 +10,7 @@ use lib.ListN.{length, getD}
 use Rattle.table.specs.declared.Edition.{Edition}
 use Rattle.table.specs.Operation.{isNop}
 use Rattle.plain_rules.specs.Machine.{executedRegisters}
-use Rattle.plain.proofs.Loop.{Done, Given, editionBy, its-edition, no-line, li-given, multiply-given, short-given, stored-elsewhere, stored-in-0, not-stored}
+use Rattle.plain.proofs.Loop.{Done, Given, editionBy, its-edition, no-line, li-given, multiply-given, short-given, in-file, stored-elsewhere, stored-in-0, not-stored}
 use Rattle.plain.proofs.Loop.{nothing-written, as-long, all-lines}
 use Rattle.table.proofs.writes.is_wired.Reads as is-wired
 use Rattle.table.proofs.fields.rd.Reads as rd
@@ -165,37 +165,37 @@ loop-again-10 c = nothing-written (short (c .before)) (c .before .is-nop .ensure
 -- ---- far back: the register is one of the 32, and the line was there
 
 mul-registers-2 : this.Tie.Need-mul-registers-2 Inv-loop μ-loop
-mul-registers-2 c = let kind = c .before .before .before .before .before .before .before .before .before .before .before in let target = kind .before .before .before .before .before .before .before .before .before .before in omega (arith, target .rd .ensures .1)
+mul-registers-2 c = omega (arith, in-file (multiply (c .before) .0))
 
 array-set-from-registers-3 : this.Tie.Need-array-set-from-registers-3 Inv-loop μ-loop
-array-set-from-registers-3 c = let kind = c .before .before .before .before .before .before .before .before .before .before .before in let target = kind .before .before .before .before .before .before .before .before .before .before in omega (arith, target .rd .ensures .1)
+array-set-from-registers-3 c = omega (arith, in-file (multiply (c .before) .0))
 
 mul-registers-3 : this.Tie.Need-mul-registers-3 Inv-loop μ-loop
-mul-registers-3 c = let kind = c .before .before .before .before .before .before .before .before .before .before .before in let target = kind .before .before .before .before .before .before .before .before .before in omega (arith, target .rd .ensures .1)
+mul-registers-3 c = omega (arith, in-file (short (c .before .before)))
 
 array-set-from-registers-5 : this.Tie.Need-array-set-from-registers-5 Inv-loop μ-loop
-array-set-from-registers-5 c = let kind = c .before .before .before .before .before .before .before .before .before .before .before in let target = kind .before .before .before .before .before .before .before .before .before in omega (arith, target .rd .ensures .1)
+array-set-from-registers-5 c = omega (arith, in-file (short (c .before .before)))
 
 loop-less-4 : this.Tie.Need-loop-less-4 Inv-loop μ-loop
-loop-less-4 c = let kind = c .before .before .before .before .before .before .before .before .before .before .before in let target = kind .before .before .before .before .before .before .before .before .before .before in omega (arith, target .before .before .loop-test .taken)
+loop-less-4 c = omega (arith, multiply (c .before) .0 .here)
 
 loop-less-5 : this.Tie.Need-loop-less-5 Inv-loop μ-loop
-loop-less-5 c = let kind = c .before .before .before .before .before .before .before .before .before .before .before in let target = kind .before .before .before .before .before .before .before .before .before .before .before in omega (arith, target .before .before .loop-test .taken)
+loop-less-5 c = omega (arith, multiply (c .before .before) .0 .here)
 
 loop-less-6 : this.Tie.Need-loop-less-6 Inv-loop μ-loop
-loop-less-6 c = let kind = c .before .before .before .before .before .before .before .before .before .before .before in let target = kind .before .before .before .before .before .before .before .before .before .before .before in omega (arith, target .before .before .loop-test .taken)
+loop-less-6 c = omega (arith, multiply (c .before .before) .0 .here)
 
 loop-less-7 : this.Tie.Need-loop-less-7 Inv-loop μ-loop
-loop-less-7 c = let kind = c .before .before .before .before .before .before .before .before .before .before .before in let target = kind .before .before .before .before .before .before .before .before .before in omega (arith, target .before .before .loop-test .taken)
+loop-less-7 c = omega (arith, short (c .before .before) .here)
 
 loop-less-8 : this.Tie.Need-loop-less-8 Inv-loop μ-loop
-loop-less-8 c = let kind = c .before .before .before .before .before .before .before .before .before .before .before in let target = kind .before .before .before .before .before .before .before .before .before .before in omega (arith, target .before .before .loop-test .taken)
+loop-less-8 c = omega (arith, short (c .before .before .before) .here)
 
 loop-less-9 : this.Tie.Need-loop-less-9 Inv-loop μ-loop
-loop-less-9 c = let kind = c .before .before .before .before .before .before .before .before .before .before .before in let target = kind .before .before .before .before .before .before .before .before .before .before in omega (arith, target .before .before .loop-test .taken)
+loop-less-9 c = omega (arith, short (c .before .before .before) .here)
 
 loop-less-10 : this.Tie.Need-loop-less-10 Inv-loop μ-loop
-loop-less-10 c = let kind = c .before .before .before .before .before .before .before .before .before .before .before in let target = kind .before .before .before .before .before .before .before .before in omega (arith, target .before .before .loop-test .taken)
+loop-less-10 c = omega (arith, short (c .before) .here)
 
 returns : this.Tie.Need-returns Inv-loop μ-loop
 returns c =

@@ -1,35 +1,30 @@
 -- Carried by the two tests, of the register that `rd` answers.
-use mathlib.Core.Path.{sym, ap, _∙_}
-use Rattle.table.specs.Operation.{isWired, targetOf}
-use Rattle.table.specs.declared.Target.the-variants.{To}
+use Prim.Native.Nat.{ℕ}
+use mathlib.Core.Path.{_≡_}
+use mathlib.Core.Bool.{Bool, true, false}
+use borrow.Author.Needs.{needs}
+use Rattle.table.specs.declared.Edition.{Edition}
+use Rattle.table.specs.declared.Pointer.{Pointer}
+use Rattle.table.specs.declared.Target.the-variants.{None, To}
+use Rattle.table.specs.Fields.{rdOf}
+use Rattle.table.specs.Operation.{isNop, isWired, targetOf}
 use Rattle.table.proofs.writes.target_of as this
 
-returns : this.Tie.Need-returns
-unfolding targetOf
-returns c = rw (sym (c .before .is-nop .ensures) ∙ c .if1 .taken)
+module _ (edition : Edition) (w : ℕ) {n : Bool} (nop : n ≡ isNop w) where
+  nothing : n ≡ true → None ≡ targetOf edition w
+  unfolding targetOf
+  nothing h = rw (← nop, h)
 
-returns-2 : this.Tie.Need-returns-2
-unfolding targetOf
-returns-2 c =
-    let wired = c .before in
-    let nop = wired .before .before in
-    let edition = nop .before .before .args .edition in
-    rw (
-      sym (nop .before .is-nop .ensures) ∙ nop .if1 .left,
-      sym (wired .is-wired .ensures ∙ ap (isWired edition) (wired .before .rd .ensures .0)) ∙ c .if2 .taken,
-    )
+  module _ (writes : n ≡ false) {p : Pointer} (at : p ≡ rdOf w) {t : Bool} (asked : t ≡ isWired edition p) where
+    dropped : t ≡ true → None ≡ targetOf edition w
+    unfolding targetOf
+    dropped h = rw (← nop, writes, ← at, ← asked, h)
 
-returns-3 : this.Tie.Need-returns-3
-unfolding targetOf
-returns-3 c =
-    let wired = c .before in
-    let nop = wired .before .before in
-    let edition = nop .before .before .args .edition in
-    rw (
-      sym (nop .before .is-nop .ensures) ∙ nop .if1 .left,
-      sym (wired .is-wired .ensures ∙ ap (isWired edition) (wired .before .rd .ensures .0)) ∙ c .if2 .left,
-    )
-    (ap To (wired .before .rd .ensures .0))
+    written : t ≡ false → To p ≡ targetOf edition w
+    unfolding targetOf
+    written h = rw (← nop, writes, ← at, ← asked, h)
 
 pub target-of-spec : {M : Type 1} → this.Statement.statement M
-target-of-spec = this.Tie.close (this.Tie.spec _ returns _ _ returns-2 returns-3)
+target-of-spec =
+    this.Tie.close
+    (this.Tie.spec _ (λ c. search (nothing, needs)) _ _ (λ c. search (dropped, needs)) (λ c. search (written, needs)))
