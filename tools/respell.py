@@ -14,6 +14,8 @@ import sys
 NAME = r"[^\s(){}.;,@\"«»]+"
 BARE = rf"(?<![^\s(){{}};,@«»`]){NAME}"
 GOALS = re.compile(r"/(Proof|Answers|Invariants)\.antt$")
+# What stands at the margin, and what stands in a module or a record of its own.
+INSIDE = re.compile(r"(?m)^ +(?:(?:abbrev|unfoldable|pub) )*([^\s(){}.;,]+)(?: \{[^{}\n]*\})*(?: \([^()\n]*\))* :(?!=)")
 DECLARED = re.compile(r"(?m)^(?:(?:abbrev|unfoldable|pub|record|data|ruleset) )*([^\s(){}.;,]+)(?: \{[^{}\n]*\})*(?: \([^()\n]*\))* :(?!=)")
 # Lemmas that would have the name of a definition, as it is spelled from now on.
 LEMMAS = {
@@ -32,9 +34,9 @@ LEMMAS = {
 
 
 def snake(word):
-    word = word.replace("-", "_")
+    word = word.replace("-", "_").replace("/", "_")
     word = re.sub(r"(?<=[a-z0-9])_?([A-Z]+)(?=[a-z]|$|[0-9_'₀-₉])", lambda m: "_" + m[1].lower(), word)
-    return word
+    return word.lower()
 
 
 def read(path):
@@ -74,10 +76,11 @@ def main():
     dashed = {}
     for p in antt:
         if not GOALS.search(p):
-            for w in DECLARED.findall(texts[p]):
+            for w in DECLARED.findall(texts[p]) + INSIDE.findall(texts[p]):
                 if "-" in w and w not in foreign:
                     dashed[w] = snake(w)
 
+    inside = {w: snake(w) for p in antt if not GOALS.search(p) for w in INSIDE.findall(texts[p]) if "-" in w and w not in foreign}
     declared = {w for p in antt for w in DECLARED.findall(texts[p])} - set(LEMMAS)
     taken = declared | set(camel.values())
     dashed = {old: new + "_lem" if new in taken else new for old, new in dashed.items()}
@@ -99,7 +102,7 @@ def main():
                 aliases[m[1]] = snake(m[1]).lower()
         # A dashed word that the file brings from elsewhere, or that its own goals have, stays.
         if GOALS.search(p):
-            for w in DECLARED.findall(t):
+            for w in DECLARED.findall(t) + INSIDE.findall(t):
                 here.pop(w, None)
         for m in imports.finditer(t):
             steps = m[1].split(".")
@@ -124,6 +127,7 @@ def main():
                         return here.get(w, w)
 
                     piece = re.sub(BARE, turn, piece)
+                    piece = re.sub(rf"(?<=\.)({NAME})", lambda m: inside.get(m[0], m[0]), piece)
                     # a word behind a module's name
                     modules = {a for a in re.findall(r"(?m)^use Rattle\.[\w.'+]+ as (\S+)$", t)}
                     modules |= {m.split(".")[-1] for m in re.findall(r"(?m)^use (Rattle\.[\w.'+]+)$", t)}

@@ -41,11 +41,11 @@ two_halfwords f a b e h l p q s t =
 -- four words of halfwords, with their mark and as a value alone
 module _ (f : ℕ → ℕ → ℤ) (a b : Register) {w0 w1 w2 w3 : ClampedHalves} (e : w0 ≡ clamped_halves f a.w0 b.w0) (g : w1 ≡ clamped_halves f a.w1 b.w1)
     (h : w2 ≡ clamped_halves f a.w2 b.w2) (j : w3 ≡ clamped_halves f a.w3 b.w3) where
-  pub eight-halfwords : {r : Outcome} → r ≡ of_halves w0 w1 w2 w3 → r ≡ clamped_halfwords f a b
-  eight-halfwords k = k ∙ (λ i. of_halves (e i) (g i) (h i) (j i))
+  pub eight_halfwords : {r : Outcome} → r ≡ of_halves w0 w1 w2 w3 → r ≡ clamped_halfwords f a b
+  eight_halfwords k = k ∙ (λ i. of_halves (e i) (g i) (h i) (j i))
 
-  pub eight-values : {r : Register} → r ≡ (of_halves w0 w1 w2 w3).value → r ≡ (clamped_halfwords f a b).value
-  eight-values k = k ∙ (λ i. (of_halves (e i) (g i) (h i) (j i)).value)
+  pub eight_values : {r : Register} → r ≡ (of_halves w0 w1 w2 w3).value → r ≡ (clamped_halfwords f a b).value
+  eight_values k = k ∙ (λ i. (of_halves (e i) (g i) (h i) (j i)).value)
 
 abbrev words_of : Clamped32 → Clamped32 → Clamped32 → Clamped32 → Outcome
 words_of w0 w1 w2 w3 = record {

@@ -13,7 +13,7 @@ use register::Register;
 use register::halves::{half_of_word, join_halfwords};
 
 // A word of two clamped halfwords, and their marks: bit 0 for the low one, bit 1 for the high one.
-#[derive(Drop)]
+#[derive(Clone, Copy)]
 pub(crate) struct ClampedHalves {
     pub value: u32,
     pub bits: u32,

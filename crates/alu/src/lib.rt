@@ -1,5 +1,7 @@
 // What each instruction of the table gives from its operands: the lane operations across whole registers, and the result of a word.
 
+#![tactic(auto)]
+
 ghost use Rattle.std.specs.Prelude.{◌≡◌, get_or};
 ghost use Rattle.register.specs.Layout.{zero_register, with_halfword};
 ghost use Rattle.table.specs.Fields.{is_long, is_subtract, is_high, index_of, immediate_of, code_of};

@@ -20,38 +20,38 @@ turned k x = bit_xor x (2 ^ (k - 1))
 
 -- v is z clamped to k bits, and b says whether that changes it
 pub record Clamps (k : ℕ) (z : ℤ) (v : ℕ) (b : Bool) : Type 0 where
-  pub value-is : v ≡ clamped k z
-  pub mark-is : b ≡ is_marked k z
+  pub value_is : v ≡ clamped k z
+  pub mark_is : b ≡ is_marked k z
 
 -- what the code of a clamped sum has, from its answer back to its operands: all of it stands in the contracts of its calls, where `search` finds it
 pub record Added (k : ℕ) (exact : ℤ) (value : ℕ) (marked : Bool) : Type 0 where
   pub limit : ℕ
   pub sum : ℕ
-  pub value-picked : value ≡ cond marked limit sum
+  pub value_picked : value ≡ cond marked limit sum
   -- x, z and the sum are compared with their top bits: whether each is below, and so not negative
   pub x : ℕ
   pub z : ℕ
-  pub x-top : ℕ
-  pub z-top : ℕ
+  pub x_top : ℕ
+  pub z_top : ℕ
   pub sum_top : ℕ
-  pub signs : marked ≡ sign_lost (ltb x x-top) (ltb z z-top) (ltb sum sum_top)
+  pub signs : marked ≡ sign_lost (ltb x x_top) (ltb z z_top) (ltb sum sum_top)
   pub most : ℕ
   pub least : ℕ
-  pub limit-picked : limit ≡ cond (ltb x x-top) most least
+  pub limit_picked : limit ≡ cond (ltb x x_top) most least
   pub first : ℕ
   pub carry : ℕ
-  pub then-added : sum ≡ (first + carry) % 2 ^ k
-  pub first-added : first ≡ (x + z) % 2 ^ k
+  pub then_added : sum ≡ (first + carry) % 2 ^ k
+  pub first_added : first ≡ (x + z) % 2 ^ k
   -- y and 0, or y with every bit turned and 1
   pub minus : Bool
-  pub carry-picked : carry ≡ cond minus 1 0
+  pub carry_picked : carry ≡ cond minus 1 0
   pub y : ℕ
   pub ones : ℕ
-  pub z-picked : z ≡ cond minus (ones - y) y
+  pub z_picked : z ≡ cond minus (ones - y) y
   pub x_fits : x < 2 ^ k
-  pub y-fits : y < 2 ^ k
+  pub y_fits : y < 2 ^ k
   pub sum_fits : sum < 2 ^ k
-  pub is-exact : exact ≡ exact_sum k minus x y
+  pub is_exact : exact ≡ exact_sum k minus x y
 
 -- v modulo m, where v is below m + m: m is taken away once, or not at all
 once : (m v : ℕ) {P : Type 0} → v < m + m → (v % m ≡ v → P) → (v % m + m ≡ v → P) → P
@@ -63,14 +63,14 @@ once m v h same less =
 module _ (k : ℕ) (some : 0 < k) where
   -- ---- the top bit turned
 
-  turned-low : (x : ℕ) → x < 2 ^ (k - 1) → turned k x ≡ x + 2 ^ (k - 1)
-  turned-low x h =
+  turned_low : (x : ℕ) → x < 2 ^ (k - 1) → turned k x ≡ x + 2 ^ (k - 1)
+  turned_low x h =
       let e : 0 * 2 ^ (k - 1) + x ≡ x = omega arith in
       let f : 1 * 2 ^ (k - 1) + 0 ≡ 2 ^ (k - 1) = omega arith in
       ap₂ bit_xor (sym e) (sym f) ∙ xor_block (k - 1) 0 1 x 0 h (pow_pos (k - 1)) ∙ omega (arith, xor_zero_r x)
 
-  turned-high : (x : ℕ) → 2 ^ (k - 1) ≤ x → x < 2 ^ k → turned k x ≡ x - 2 ^ (k - 1)
-  turned-high x h l =
+  turned_high : (x : ℕ) → 2 ^ (k - 1) ≤ x → x < 2 ^ k → turned k x ≡ x - 2 ^ (k - 1)
+  turned_high x h l =
       let d = double k some in
       let e : 1 * 2 ^ (k - 1) + (x - 2 ^ (k - 1)) ≡ x = omega arith in
       let f : 1 * 2 ^ (k - 1) + 0 ≡ 2 ^ (k - 1) = omega arith in
@@ -80,27 +80,27 @@ module _ (k : ℕ) (some : 0 < k) where
   turned_lt : (x : ℕ) → x < 2 ^ k → turned k x < 2 ^ k
   turned_lt x l =
       let d = double k some in
-      either x (2 ^ (k - 1)) (λ h. omega (arith, turned-low x h)) (λ h. omega (arith, turned-high x h l))
+      either x (2 ^ (k - 1)) (λ h. omega (arith, turned_low x h)) (λ h. omega (arith, turned_high x h l))
 
-  signed-turned : (x : ℕ) → x < 2 ^ k → signed k x ≡ sub_ℕ (turned k x) (2 ^ (k - 1))
-  signed-turned x l =
+  signed_turned : (x : ℕ) → x < 2 ^ k → signed k x ≡ sub_ℕ (turned k x) (2 ^ (k - 1))
+  signed_turned x l =
       let d = double k some in
       either x (2 ^ (k - 1))
-      (λ h. let e = turned-low x h in signed_low k some x h ∙ pos_as x (turned k x) _ (omega arith))
-      (λ h. let e = turned-high x h l in signed_high k some x h ∙ sub_same x (2 ^ k) (turned k x) _ (omega arith))
+      (λ h. let e = turned_low x h in signed_low k some x h ∙ pos_as x (turned k x) _ (omega arith))
+      (λ h. let e = turned_high x h l in signed_high k some x h ∙ sub_same x (2 ^ k) (turned k x) _ (omega arith))
 
   -- the order of signed numbers is that of their turned bits
   pub order : (x y : ℕ) → x < 2 ^ k → y < 2 ^ k → ltb (turned k x) (turned k y) ≡ lt_z (signed k x) (signed k y)
-  order x y l m = sym (sub_order (turned k x) (turned k y) (2 ^ (k - 1))) ∙ sym (ap₂ lt_z (signed-turned x l) (signed-turned y m))
+  order x y l m = sym (sub_order (turned k x) (turned k y) (2 ^ (k - 1))) ∙ sym (ap₂ lt_z (signed_turned x l) (signed_turned y m))
 
   -- ---- u - 2^k clamped, by the four ranges of u
 
   -- z is what is clamped, as a constructor
-  is-clamped : {y z : ℤ} {v : ℕ} {b : Bool} → y ≡ z → bits k (within (negsuc (2 ^ (k - 1) - 1)) (greatest k) z) ≡ v
+  is_clamped : {y z : ℤ} {v : ℕ} {b : Bool} → y ≡ z → bits k (within (negsuc (2 ^ (k - 1) - 1)) (greatest k) z) ≡ v
       → (lt_z z (negsuc (2 ^ (k - 1) - 1)) || lt_z (greatest k) z) ≡ b → Clamps k y v b
-  is-clamped {z = z} e f g = record {
-    value-is = sym (ap (clamped k) e ∙ ap (bits k) (bounds k some z) ∙ f);
-    mark-is = sym (ap (is_marked k) e ∙ ap (λ (l : ℤ). lt_z z l || lt_z (greatest k) z) (neg_pos (2 ^ (k - 1)) (pow_pos (k - 1))) ∙ g);
+  is_clamped {z = z} e f g = record {
+    value_is = sym (ap (clamped k) e ∙ ap (bits k) (bounds k some z) ∙ f);
+    mark_is = sym (ap (is_marked k) e ∙ ap (λ (l : ℤ). lt_z z l || lt_z (greatest k) z) (neg_pos (2 ^ (k - 1)) (pow_pos (k - 1))) ∙ g);
   }
 
   over : (u : ℕ) → 2 ^ k + 2 ^ (k - 1) ≤ u → Clamps k (sub_ℕ u (2 ^ k)) (2 ^ (k - 1) - 1) true
@@ -108,25 +108,25 @@ module _ (k : ℕ) (some : 0 < k) where
   over u h =
       let q = pow_pos (k - 1) in
       let n = u - 2 ^ k in
-      is-clamped (sub_pos u _ (omega arith)) (ap (bits k) (above _ n (omega arith))) (lt-ltb _ n (omega arith))
+      is_clamped (sub_pos u _ (omega arith)) (ap (bits k) (above _ n (omega arith))) (lt-ltb _ n (omega arith))
 
-  inside-low : (u s : ℕ) → s + 2 ^ k ≡ u → s < 2 ^ (k - 1) → Clamps k (sub_ℕ u (2 ^ k)) s false
+  inside_low : (u s : ℕ) → s + 2 ^ k ≡ u → s < 2 ^ (k - 1) → Clamps k (sub_ℕ u (2 ^ k)) s false
   unfolding bits
-  inside-low u s e h = is-clamped (sym (pos_as s u _ e)) (ap (bits k) (inside_pos _ s (omega arith))) (le-ltb _ s (omega arith))
+  inside_low u s e h = is_clamped (sym (pos_as s u _ e)) (ap (bits k) (inside_pos _ s (omega arith))) (le-ltb _ s (omega arith))
 
-  inside-high : (u s : ℕ) → s ≡ u → 2 ^ (k - 1) ≤ s → s < 2 ^ k → Clamps k (sub_ℕ u (2 ^ k)) s false
+  inside_high : (u s : ℕ) → s ≡ u → 2 ^ (k - 1) ≤ s → s < 2 ^ k → Clamps k (sub_ℕ u (2 ^ k)) s false
   unfolding bits
-  inside-high u s e h l =
+  inside_high u s e h l =
       let d = double k some in
       let n = 2 ^ k - suc u in
-      is-clamped (sub_neg u _ (omega arith)) (ap (bits k) (inside_neg _ n (omega arith)) ∙ omega arith) (rw (le-ltb (2 ^ (k - 1) - 1) n (omega arith)))
+      is_clamped (sub_neg u _ (omega arith)) (ap (bits k) (inside_neg _ n (omega arith)) ∙ omega arith) (rw (le-ltb (2 ^ (k - 1) - 1) n (omega arith)))
 
   under : (u : ℕ) → u < 2 ^ (k - 1) → Clamps k (sub_ℕ u (2 ^ k)) (2 ^ (k - 1)) true
   unfolding bits
   under u h =
       let d = double k some in
       let n = 2 ^ k - suc u in
-      is-clamped (sub_neg u _ (omega arith)) (ap (bits k) (beneath _ n (omega arith)) ∙ omega arith) (rw (lt-ltb (2 ^ (k - 1) - 1) n (omega arith)))
+      is_clamped (sub_neg u _ (omega arith)) (ap (bits k) (beneath _ n (omega arith)) ∙ omega arith) (rw (lt-ltb (2 ^ (k - 1) - 1) n (omega arith)))
 
   -- ---- x + z + c by the signs of x and z and of s, which is that sum wrapped
 
@@ -138,10 +138,10 @@ module _ (k : ℕ) (some : 0 < k) where
   side : (x : ℕ) → x < 2 ^ k → (t : Bool) → ltb x (2 ^ (k - 1)) ≡ t → Side x t
   side x l true e =
       let h = ltb-true x _ e in
-      (h, turned-low x h)
+      (h, turned_low x h)
   side x l false e =
       let h = ltb-false x _ e in
-      (h, omega (arith, turned-high x h l))
+      (h, omega (arith, turned_high x h l))
 
   module _ (x z c s : ℕ) {t : ℕ} (d : 2 ^ k ≡ 2 ^ (k - 1) + 2 ^ (k - 1)) (hx : x < 2 ^ k) (hz : z < 2 ^ k) (hc : c ≤ 1)
       (et : t ≡ (x + z) % 2 ^ k) (es : s ≡ (t + c) % 2 ^ k) where
@@ -152,29 +152,29 @@ module _ (k : ℕ) (some : 0 < k) where
         once (2 ^ k) (x + z + c) (omega arith) (λ n. f (m ∙ n)) (λ n. g (omega arith))
 
     -- the eight cases of three signs
-    by-sides : s < 2 ^ k → (a b t : Bool) → Side x a → Side z b → Side s t
+    by_sides : s < 2 ^ k → (a b t : Bool) → Side x a → Side z b → Side s t
         → Clamps k (sub_ℕ (turned k x + (turned k z + c)) (2 ^ k)) (cond (sign_lost a b t) (cond a (2 ^ (k - 1) - 1) (2 ^ (k - 1))) s) (sign_lost a b t)
     unfolding sign_lost
-    by-sides hs true true true p q r = inside-low _ s (wraps (λ n. omega arith) (λ n. omega arith)) r.0
-    by-sides hs true true false p q r = over _ (wraps (λ n. omega arith) (λ n. omega arith))
-    by-sides hs true false true p q r = inside-low _ s (wraps (λ n. omega arith) (λ n. omega arith)) r.0
-    by-sides hs true false false p q r = inside-high _ s (wraps (λ n. omega arith) (λ n. omega arith)) r.0 hs
-    by-sides hs false true true p q r = inside-low _ s (wraps (λ n. omega arith) (λ n. omega arith)) r.0
-    by-sides hs false true false p q r = inside-high _ s (wraps (λ n. omega arith) (λ n. omega arith)) r.0 hs
-    by-sides hs false false true p q r = under _ (wraps (λ n. omega arith) (λ n. omega arith))
-    by-sides hs false false false p q r = inside-high _ s (wraps (λ n. omega arith) (λ n. omega arith)) r.0 hs
+    by_sides hs true true true p q r = inside_low _ s (wraps (λ n. omega arith) (λ n. omega arith)) r.0
+    by_sides hs true true false p q r = over _ (wraps (λ n. omega arith) (λ n. omega arith))
+    by_sides hs true false true p q r = inside_low _ s (wraps (λ n. omega arith) (λ n. omega arith)) r.0
+    by_sides hs true false false p q r = inside_high _ s (wraps (λ n. omega arith) (λ n. omega arith)) r.0 hs
+    by_sides hs false true true p q r = inside_low _ s (wraps (λ n. omega arith) (λ n. omega arith)) r.0
+    by_sides hs false true false p q r = inside_high _ s (wraps (λ n. omega arith) (λ n. omega arith)) r.0 hs
+    by_sides hs false false true p q r = under _ (wraps (λ n. omega arith) (λ n. omega arith))
+    by_sides hs false false false p q r = inside_high _ s (wraps (λ n. omega arith) (λ n. omega arith)) r.0 hs
 
   -- z is y with every bit turned: it says the opposite of what y says, less 1
   opposite : (y z : ℕ) → y + z + 1 ≡ 2 ^ k → turned k y + turned k z + 1 ≡ 2 ^ k
   opposite y z e =
       let d = double k some in
       either y (2 ^ (k - 1))
-      (λ h. omega (arith, turned-low y h, turned-high z (omega arith) (omega arith)))
-      (λ h. omega (arith, turned-high y h (omega arith), turned-low z (omega arith)))
+      (λ h. omega (arith, turned_low y h, turned_high z (omega arith) (omega arith)))
+      (λ h. omega (arith, turned_high y h (omega arith), turned_low z (omega arith)))
 
   -- a signed number and n, which is v - 2^(k-1)
   summed : (x v : ℕ) {n : ℤ} → x < 2 ^ k → n ≡ sub_ℕ v (2 ^ (k - 1)) → signed k x +ℤ n ≡ sub_ℕ (turned k x + v) (2 ^ k)
-  summed x v hx e = ap₂ ◌+ℤ◌ (signed-turned x hx) e ∙ sub_sum (turned k x) _ v _ ∙ ap (sub_ℕ (turned k x + v)) (sym (double k some))
+  summed x v hx e = ap₂ ◌+ℤ◌ (signed_turned x hx) e ∙ sub_sum (turned k x) _ v _ ∙ ap (sub_ℕ (turned k x + v)) (sym (double k some))
 
   -- the code adds z and c: y and 0, or y with every bit turned and 1
   added : (minus : Bool) (x y : ℕ) {z c : ℕ} → x < 2 ^ k → y < 2 ^ k → z ≡ cond minus (2 ^ k - 1 - y) y → c ≡ cond minus 1 0
@@ -184,32 +184,32 @@ module _ (k : ℕ) (some : 0 < k) where
       let o = opposite y z (omega arith) in
       let h = 2 ^ (k - 1) in
       let v = turned k z + c in
-      (omega arith, omega arith, summed x v hx (ap neg_ℤ (signed-turned y hy) ∙ sub_swap (turned k y) h ∙ sub_same h (turned k y) v h (omega arith)))
+      (omega arith, omega arith, summed x v hx (ap neg_ℤ (signed_turned y hy) ∙ sub_swap (turned k y) h ∙ sub_same h (turned k y) v h (omega arith)))
   added false x y {z} {c} hx hy ez ec =
       let o = ap (turned k) ez in
       let h = 2 ^ (k - 1) in
       let v = turned k z + c in
-      (omega arith, omega arith, summed x v hx (signed-turned y hy ∙ sub_same (turned k y) h v h (omega arith)))
+      (omega arith, omega arith, summed x v hx (signed_turned y hy ∙ sub_same (turned k y) h v h (omega arith)))
 
   -- the numerals of the code stand apart, so that a wrong one is refused by its number
   abbrev Numerals : {exact : ℤ} {value : ℕ} {marked : Bool} → Added k exact value marked → Type 0
   Numerals a =
-      (a.x-top ≡ 2 ^ (k - 1)) × (a.z-top ≡ 2 ^ (k - 1)) × (a.sum_top ≡ 2 ^ (k - 1)) × (a.most ≡ 2 ^ (k - 1) - 1) × (a.least ≡ 2 ^ (k - 1))
+      (a.x_top ≡ 2 ^ (k - 1)) × (a.z_top ≡ 2 ^ (k - 1)) × (a.sum_top ≡ 2 ^ (k - 1)) × (a.most ≡ 2 ^ (k - 1) - 1) × (a.least ≡ 2 ^ (k - 1))
       × (a.ones ≡ 2 ^ k - 1)
 
-  pub clamped-sum : {exact : ℤ} {value : ℕ} {marked : Bool} (a : Added k exact value marked) → Numerals a → Clamps k exact value marked
-  clamped-sum {marked = marked} a n =
+  pub clamped_sum : {exact : ℤ} {value : ℕ} {marked : Bool} (a : Added k exact value marked) → Numerals a → Clamps k exact value marked
+  clamped_sum {marked = marked} a n =
       let s = a.sum in
       let h = 2 ^ (k - 1) in
-      let e = added a.minus a.x a.y a.x_fits a.y-fits (rw n.5 at a.z-picked) a.carry-picked in
-      let r = by-sides a.x a.z a.carry s (double k some) a.x_fits e.0 e.1 a.first-added a.then-added a.sum_fits _ _ _
+      let e = added a.minus a.x a.y a.x_fits a.y_fits (rw n.5 at a.z_picked) a.carry_picked in
+      let r = by_sides a.x a.z a.carry s (double k some) a.x_fits e.0 e.1 a.first_added a.then_added a.sum_fits _ _ _
       (side a.x a.x_fits _ refl) (side a.z e.0 _ refl) (side s a.sum_fits _ refl) in
       let lost : marked ≡ sign_lost (ltb a.x h) (ltb a.z h) (ltb s h) = rw (n.0, n.1, n.2) at a.signs in
-      let limit : a.limit ≡ cond (ltb a.x h) (h - 1) h = rw (n.0, n.3, n.4) at a.limit-picked in
-      let difference = a.is-exact ∙ e.2 in
+      let limit : a.limit ≡ cond (ltb a.x h) (h - 1) h = rw (n.0, n.3, n.4) at a.limit_picked in
+      let difference = a.is_exact ∙ e.2 in
       record {
-        value-is = a.value-picked ∙ ap₂ (λ (b : Bool) (n : ℕ). cond b n s) lost limit ∙ r.value-is ∙ sym (ap (clamped k) difference);
-        mark-is = lost ∙ r.mark-is ∙ sym (ap (is_marked k) difference);
+        value_is = a.value_picked ∙ ap₂ (λ (b : Bool) (n : ℕ). cond b n s) lost limit ∙ r.value_is ∙ sym (ap (clamped k) difference);
+        mark_is = lost ∙ r.mark_is ∙ sym (ap (is_marked k) difference);
       }
 
   -- ---- a difference p - q that fits, wrapped
@@ -245,17 +245,17 @@ module _ (k : ℕ) (some : 0 < k) where
 
   -- what the code multiplies and adds has at most k bits, so it fits k + k
   module _ (a b : ℕ) (ha : a < 2 ^ k) (hb : b < 2 ^ k) where
-    pub product-of-turned : turned k a * turned k b < 2 ^ (k + k)
-    product-of-turned = product_fits k (turned_lt k some a ha) (turned_lt k some b hb)
+    pub product_of_turned : turned k a * turned k b < 2 ^ (k + k)
+    product_of_turned = product_fits k (turned_lt k some a ha) (turned_lt k some b hb)
 
-    pub scaled-sum-of-turned : (turned k a + turned k b) * 2 ^ (k - 1) < 2 ^ (k + k)
-    scaled-sum-of-turned =
+    pub scaled_sum_of_turned : (turned k a + turned k b) * 2 ^ (k - 1) < 2 ^ (k + k)
+    scaled_sum_of_turned =
         let h = 2 ^ (k - 1) in
         let less : turned k a + turned k b < 4 * h = omega (arith, double k some, turned_lt k some a ha, turned_lt k some b hb) in
         omega (arith, squared, mul-lt-mul_of_pos_right less (pow_pos (k - 1)))
 
-    pub sum-of-turned : turned k a + turned k b < 2 ^ (k + k)
-    sum-of-turned = omega (arith, scaled-sum-of-turned, mul-le-mul_left (turned k a + turned k b) (pow_pos (k - 1)))
+    pub sum_of_turned : turned k a + turned k b < 2 ^ (k + k)
+    sum_of_turned = omega (arith, scaled_sum_of_turned, mul-le-mul_left (turned k a + turned k b) (pow_pos (k - 1)))
 
   -- p and r are what the code has: the sum and then the difference, both wrapped
   pub product : (a b : ℕ) {p r : ℕ} → a < 2 ^ k → b < 2 ^ k → r < 2 ^ (k + k)
@@ -274,7 +274,7 @@ module _ (k : ℕ) (some : 0 < k) where
       let w = squared in
       let c : x * h + h * y ≡ (x + y) * h = simp (add-mul, mul_comm h y) in
       wrapped (k + k) (omega arith) r (x * y + h * h) (x * h + h * y) hr (rw c (f ∙ e)) (omega arith) (omega arith) (omega arith) (omega arith)
-      ∙ sym (ap₂ ◌*ℤ◌ (signed-turned k some a ha) (signed-turned k some b hb) ∙ sub_times x h y h)
+      ∙ sym (ap₂ ◌*ℤ◌ (signed_turned k some a ha) (signed_turned k some b hb) ∙ sub_times x h y h)
 
 -- m is what the code has for the product, and f makes its answer of what it clamps
 pub with_product : (k : ℕ) {A : Type 0} (f : ℤ → A) (subtract : Bool) (rs1 a b m : ℕ) {r : A} → signed (k + k) m ≡ signed k a *ℤ signed k b

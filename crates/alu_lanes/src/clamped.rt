@@ -7,21 +7,21 @@ ghost use Rattle.alu_lanes.specs.Clamped.{clamped16, clamped32, clamped64};
 use crate::sign::{clamped_sum_16, clamped_sum_32, clamped_sum_64, product_16, product_32};
 
 // A lane of 16 bits: the exact result clamped, and whether that changed it.
-#[derive(Drop)]
+#[derive(Clone, Copy)]
 pub struct Clamped16 {
     pub value: u16,
     pub marked: bool,
 }
 
 // The same at 32 bits.
-#[derive(Drop)]
+#[derive(Clone, Copy)]
 pub struct Clamped32 {
     pub value: u32,
     pub marked: bool,
 }
 
 // The same at 64 bits.
-#[derive(Drop)]
+#[derive(Clone, Copy)]
 pub struct Clamped64 {
     pub value: u64,
     pub marked: bool,

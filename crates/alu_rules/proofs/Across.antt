@@ -22,10 +22,10 @@ Keeps k f = (x y z : ℕ) → x < 2 ^ k → y < 2 ^ k → z < 2 ^ k → f x y z 
 
 pub words_held : (f : ℕ → ℕ → ℕ → ℕ) → Keeps 32 f → (a b c : Register) → Held a → Held b → Held c → Held (words₃ f a b c)
 words_held f keeps a b c ha hb hc = record {
-  w0-fits = keeps a.w0 b.w0 c.w0 ha.w0-fits hb.w0-fits hc.w0-fits;
-  w1-fits = keeps a.w1 b.w1 c.w1 ha.w1-fits hb.w1-fits hc.w1-fits;
-  w2-fits = keeps a.w2 b.w2 c.w2 ha.w2-fits hb.w2-fits hc.w2-fits;
-  w3-fits = keeps a.w3 b.w3 c.w3 ha.w3-fits hb.w3-fits hc.w3-fits;
+  w0_fits = keeps a.w0 b.w0 c.w0 ha.w0_fits hb.w0_fits hc.w0_fits;
+  w1_fits = keeps a.w1 b.w1 c.w1 ha.w1_fits hb.w1_fits hc.w1_fits;
+  w2_fits = keeps a.w2 b.w2 c.w2 ha.w2_fits hb.w2_fits hc.w2_fits;
+  w3_fits = keeps a.w3 b.w3 c.w3 ha.w3_fits hb.w3_fits hc.w3_fits;
 }
 
 pub at_words : (f : ℕ → ℕ → ℕ → ℕ) → Keeps 32 f → (a b c : Register) → Held a → Held b → Held c
@@ -43,11 +43,11 @@ module _ (f : ℕ → ℕ → ℕ) (keeps : (x y : ℕ) → x < 2 ^ 16 → y < 2
   word_fits : Keeps 32 (λ (x y z : ℕ). halves₂ 16 f x y)
   word_fits x y z hx hy hz = join_lt 16 (keeps (high 16 x) (high 16 y) (omega arith) (omega arith)) (low_fits x y)
 
-  pub halfwords-held : Held (halfwords₂ f a b)
-  halfwords-held = words_held (λ (x y z : ℕ). halves₂ 16 f x y) word_fits a b b ha hb hb
+  pub halfwords_held : Held (halfwords₂ f a b)
+  halfwords_held = words_held (λ (x y z : ℕ). halves₂ 16 f x y) word_fits a b b ha hb hb
 
-  pub at-halfwords : (i : ℕ) → i < 8 → lane 16 i (halfwords₂ f a b) ≡ f (lane 16 i a) (lane 16 i b)
-  at-halfwords i l =
+  pub at_halfwords : (i : ℕ) → i < 8 → lane 16 i (halfwords₂ f a b) ≡ f (lane 16 i a) (lane 16 i b)
+  at_halfwords i l =
       sym (half_lane 16 i _ refl) ∙ go (eqb (i % 2) 1) ∙ ap₂ f (half_lane 16 i a refl) (half_lane 16 i b refl)
     where
       word : lane 32 (i / 2) (halfwords₂ f a b) ≡ halves₂ 16 f (lane 32 (i / 2) a) (lane 32 (i / 2) b)
@@ -65,10 +65,10 @@ long_lane : (i : ℕ) (r : Register) → Held r → lane 64 i r ≡ long r i
 long_lane i r h = sym (joined_lanes 32 i r) ∙ ap₂ (join 32) (word_lane (i + i + 1) r h) (word_lane (i + i) r h)
 
 long_0_fits : {r : Register} → Held r → long r 0 < 2 ^ 64
-long_0_fits h = join_lt 32 h.w1-fits h.w0-fits
+long_0_fits h = join_lt 32 h.w1_fits h.w0_fits
 
 long_1_fits : {r : Register} → Held r → long r 1 < 2 ^ 64
-long_1_fits h = join_lt 32 h.w3-fits h.w2-fits
+long_1_fits h = join_lt 32 h.w3_fits h.w2_fits
 
 longs_in_row : (f : ℕ → ℕ → ℕ → ℕ) (a b c : Register) (n : ℕ) → n < 2 → long (longs₃ f a b c) n ≡ f (long a n) (long b n) (long c n)
 longs_in_row f a b c zero l = pow.split (f (long a 0) (long b 0) (long c 0)) 32
@@ -76,7 +76,7 @@ longs_in_row f a b c (suc zero) l = pow.split (f (long a 1) (long b 1) (long c 1
 longs_in_row f a b c (suc (suc n)) l = absurd (omega arith)
 
 of_longs_held : {l1 l0 : ℕ} → l1 < 2 ^ 64 → l0 < 2 ^ 64 → Held (of_longs l1 l0)
-of_longs_held h1 h0 = record { w0-fits = omega arith; w1-fits = omega arith; w2-fits = omega arith; w3-fits = omega arith }
+of_longs_held h1 h0 = record { w0_fits = omega arith; w1_fits = omega arith; w2_fits = omega arith; w3_fits = omega arith }
 
 pub longs_held : (f : ℕ → ℕ → ℕ → ℕ) → Keeps 64 f → (a b c : Register) → Held a → Held b → Held c → Held (longs₃ f a b c)
 longs_held f keeps a b c ha hb hc =

@@ -44,8 +44,8 @@ module _ (op digit : ℕ → ℕ → ℕ)
     (step : (a b : ℕ) → op a b ≡ op (a / 2) (b / 2) * 2 + digit (a % 2) (b % 2))
     (moved : (a b k : ℕ) → op a b / 2 ^ k ≡ op (a / 2 ^ k) (b / 2 ^ k))
     (digits : (a b : ℕ) → digit (a % 2) (b % 2) < 2) where
-  pub bit-of-bitwise : (i a b : ℕ) → bit i (op a b) ≡ digit (bit i a) (bit i b)
-  bit-of-bitwise i a b = ap (λ (n : ℕ). n % 2) (moved a b i ∙ step (a / 2 ^ i) (b / 2 ^ i)) ∙ digits_mod _ (digits (a / 2 ^ i) (b / 2 ^ i))
+  pub bit_of_bitwise : (i a b : ℕ) → bit i (op a b) ≡ digit (bit i a) (bit i b)
+  bit_of_bitwise i a b = ap (λ (n : ℕ). n % 2) (moved a b i ∙ step (a / 2 ^ i) (b / 2 ^ i)) ∙ digits_mod _ (digits (a / 2 ^ i) (b / 2 ^ i))
 
 -- f 0 + f 1 + .. + f (n - 1)
 unfoldable pub total : ℕ → (ℕ → ℕ) → ℕ
@@ -74,8 +74,8 @@ module _ (k n x : ℕ) (h : n ≤ k) (l : x < 2 ^ k) where
       pow.shr_lt (k - n) n (subst (λ (j : ℕ). x < 2 ^ j) t l)
 
   -- each bit is the one that stood n places to its left, round the k bits
-  pub bit-of-rotated : (i : ℕ) → i < k → bit i (rotated_right k n x) ≡ bit ((i + n) % k) x
-  bit-of-rotated i m =
+  pub bit_of_rotated : (i : ℕ) → i < k → bit i (rotated_right k n x) ≡ bit ((i + n) % k) x
+  bit_of_rotated i m =
       either (i + n) k
       (λ a.
       sym (bit_of_low (k - n) i _ (omega arith)) ∙ ap (bit i) (pow.low _ (k - n) upper) ∙ ap (λ (y : ℕ). y % 2) (pow.shr-shr x n i)
@@ -85,7 +85,7 @@ module _ (k n x : ℕ) (h : n ≤ k) (l : x < 2 ^ k) where
       ∙ ap (bit (i + n - k)) (pow.high _ (k - n) upper) ∙ bit_of_low n (i + n - k) x (omega arith)
       ∙ ap (λ (y : ℕ). bit y x) (sym (ap (λ (y : ℕ). y % k) (omega arith) ∙ digits_mod 1 (omega arith))))
 
-  pub rotated-lt : rotated_right k n x < 2 ^ k
-  rotated-lt =
+  pub rotated_lt : rotated_right k n x < 2 ^ k
+  rotated_lt =
       let t : n + (k - n) ≡ k = omega arith in
       subst (λ (m : ℕ). rotated_right k n x < m) (sym (pow.pow-add 2 n (k - n)) ∙ ap (λ (j : ℕ). 2 ^ j) t) (digits_lt (mod-lt x (pow.pow_pos n)) upper)

@@ -51,9 +51,9 @@ module _ (k : ℕ) (some : 0 < k) where
   abbrev Fits : ℤ → Type 0
   Fits y = (signed k (bits k y) ≡ y) × (bits k y < 2 ^ k)
 
-  fits-pos : (n : ℕ) → n < 2 ^ (k - 1) → Fits (pos n)
+  fits_pos : (n : ℕ) → n < 2 ^ (k - 1) → Fits (pos n)
   unfolding bits
-  fits-pos n h =
+  fits_pos n h =
       let d = double k some in
       (signed_low n h, omega arith)
 
@@ -63,34 +63,34 @@ module _ (k : ℕ) (some : 0 < k) where
       let d = double k some in
       (signed_high (2 ^ k - suc n) (omega arith) ∙ sub_neg (2 ^ k - suc n) (2 ^ k) (omega arith) ∙ ap negsuc (omega arith), omega arith)
 
-  within-fits : (z : ℤ) → Fits (within (least k) (greatest k) z)
-  within-fits (pos n) =
+  within_fits : (z : ℤ) → Fits (within (least k) (greatest k) z)
+  within_fits (pos n) =
       let q = pow_pos (k - 1) in
       either n (2 ^ (k - 1))
-      (λ h. subst⁻¹ Fits (bounds (pos n) ∙ inside_pos _ n (omega arith)) (fits-pos n h))
-      (λ h. subst⁻¹ Fits (bounds (pos n) ∙ above _ n (omega arith)) (fits-pos _ (omega arith)))
-  within-fits (negsuc n) =
+      (λ h. subst⁻¹ Fits (bounds (pos n) ∙ inside_pos _ n (omega arith)) (fits_pos n h))
+      (λ h. subst⁻¹ Fits (bounds (pos n) ∙ above _ n (omega arith)) (fits_pos _ (omega arith)))
+  within_fits (negsuc n) =
       let q = pow_pos (k - 1) in
       either n (2 ^ (k - 1))
       (λ h. subst⁻¹ Fits (bounds (negsuc n) ∙ inside_neg _ n (omega arith)) (fits_neg n h))
       (λ h. subst⁻¹ Fits (bounds (negsuc n) ∙ beneath _ n (omega arith)) (fits_neg _ (omega arith)))
 
   -- the signed number that x says has the bits of x
-  pub bits-of-signed : (x : ℕ) → x < 2 ^ k → bits k (signed k x) ≡ x
+  pub bits_of_signed : (x : ℕ) → x < 2 ^ k → bits k (signed k x) ≡ x
   unfolding bits
-  bits-of-signed x l =
+  bits_of_signed x l =
       either x (2 ^ (k - 1))
       (λ h. ap (bits k) (signed_low x h))
       (λ h. ap (bits k) (signed_high x h ∙ sub_neg x _ l) ∙ omega arith)
 
   -- a clamped result, read, is the exact result held between the bounds
-  pub signed-of-clamped : (z : ℤ) → signed k (clamped k z) ≡ within (least k) (greatest k) z
-  signed-of-clamped z = (within-fits z).0
+  pub signed_of_clamped : (z : ℤ) → signed k (clamped k z) ≡ within (least k) (greatest k) z
+  signed_of_clamped z = (within_fits z).0
 
   -- so the bits of a signed number that is between the bounds already say that number
-  pub signed-of-bits : (z : ℤ) → within (least k) (greatest k) z ≡ z → signed k (bits k z) ≡ z
-  signed-of-bits z e = ap (λ (x : ℤ). signed k (bits k x)) (sym e) ∙ signed-of-clamped z ∙ e
+  pub signed_of_bits : (z : ℤ) → within (least k) (greatest k) z ≡ z → signed k (bits k z) ≡ z
+  signed_of_bits z e = ap (λ (x : ℤ). signed k (bits k x)) (sym e) ∙ signed_of_clamped z ∙ e
 
   -- a clamped result has k bits
-  pub clamped-lt : (z : ℤ) → clamped k z < 2 ^ k
-  clamped-lt z = (within-fits z).1
+  pub clamped_lt : (z : ℤ) → clamped k z < 2 ^ k
+  clamped_lt z = (within_fits z).1

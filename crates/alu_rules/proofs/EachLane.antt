@@ -1,5 +1,5 @@
 -- What each of the 25 instructions gives at each lane, by the operands' lanes, as document 01 numbers them: a table of a line for each row, and one
--- theorem, that the definitions keep to it. Carried by `at_words`, `at-halfwords` and `at_longs`, and by the laws of bits.
+-- theorem, that the definitions keep to it. Carried by `at_words`, `at_halfwords` and `at_longs`, and by the laws of bits.
 -- Assumes nothing.
 use Prim.Native.Nat.{ℕ, ◌+◌, ◌*◌, ◌/◌, ◌%◌, ◌^◌, ◌<◌, min, max}
 use mathlib.Core.Path.{◌≡◌, sym, ap, ap₂, ◌∙◌}
@@ -26,9 +26,9 @@ use Rattle.alu_rules.specs.Width.{signed, clamped, difference_modulo}
 use Rattle.alu_rules.specs.Lane.{AU, AHS, OR, MAXWS, MINWS, MLHU, MLHCU, AND, CLZW, ROTW, SFWU, SFHS}
 use Rattle.alu_rules.specs.Across.{words₁, words₂, words₃, halfwords₂, longs₃, multiply_lane}
 use Rattle.alu_rules.specs.Result.{result_of}
-use Rattle.alu_rules.proofs.Across.{at_words, at-halfwords, at_longs}
-use Rattle.alu_rules.proofs.Bits.{bit, total, lane_lt, bit_of_lane, ones_in_le, ones_by_bits, rotated-lt}
-use Rattle.alu_rules.proofs.Clamped.{clamped-lt}
+use Rattle.alu_rules.proofs.Across.{at_words, at_halfwords, at_longs}
+use Rattle.alu_rules.proofs.Bits.{bit, total, lane_lt, bit_of_lane, ones_in_le, ones_by_bits, rotated_lt}
+use Rattle.alu_rules.proofs.Clamped.{clamped_lt}
 use Rattle.alu_rules.proofs.Operations.{or_by_bits, and_by_bits, rotated_by_bits, larger, smaller, product_of_low_halves, product_with_field}
 
 -- ---- the table
@@ -126,8 +126,8 @@ module _ (rs1 rs2 rs3 : Register) (i : ℕ) (s h : Bool) where
       let p = product k (place h i) rs2 rs3 in
       cond s (x -ℤ p) (x +ℤ p)
 
-  of-halves : (k : ℕ) → multiply_lane k s h (lane (k + k) i rs1) (lane (k + k) i rs2) (lane (k + k) i rs3) ≡ exact_result k
-  of-halves k =
+  of_halves_lem : (k : ℕ) → multiply_lane k s h (lane (k + k) i rs1) (lane (k + k) i rs2) (lane (k + k) i rs3) ≡ exact_result k
+  of_halves_lem k =
       let x = signed (k + k) (lane (k + k) i rs1) in
       ap₂ (λ (m n : ℕ). (let p = signed k m *ℤ signed k n in cond s (x -ℤ p) (x +ℤ p)))
       (half_at k h i rs3) (half_at k h i rs2)
@@ -149,65 +149,65 @@ module _ (w : ℕ) (rs1 rs2 rs3 : Register) (h1 : Held rs1) (h2 : Held rs2) (h3 
   word₂ f fits j l = at_words (λ (x y z : ℕ). f x y) (λ x y z hx hy hz. fits x y hx hy) rs1 rs2 rs2 h1 h2 h2 j (omega arith)
 
   halfword₁ : (f : ℕ → ℕ) → ((x : ℕ) → x < 2 ^ 16 → f x < 2 ^ 16) → 16 * i < 128 → lane 16 i (words₁ (halves 16 f) rs1) ≡ f (lane 16 i rs1)
-  halfword₁ f fits l = at-halfwords (λ (x y : ℕ). f x) (λ x y hx hy. fits x hx) rs1 rs1 h1 h1 i (omega arith)
+  halfword₁ f fits l = at_halfwords (λ (x y : ℕ). f x) (λ x y hx hy. fits x hx) rs1 rs1 h1 h1 i (omega arith)
 
   -- bit i of a register is bit i % 32 of its word i / 32
-  in-word : (r : Register) → lane 1 i r ≡ bit (i % 32) (lane 32 (i / 32) r)
-  in-word r = bit_of_lane 32 i r (lit< tt)
+  in_word : (r : Register) → lane 1 i r ≡ bit (i % 32) (lane 32 (i / 32) r)
+  in_word r = bit_of_lane 32 i r (lit< tt)
 
   bit₂ : (f : ℕ → ℕ → ℕ) → ((x y : ℕ) → x < 2 ^ 32 → y < 2 ^ 32 → f x y < 2 ^ 32) → 1 * i < 128
       → lane 1 i (words₂ f rs1 rs2) ≡ bit (i % 32) (f (lane 32 (i / 32) rs1) (lane 32 (i / 32) rs2))
-  bit₂ f fits l = in-word (words₂ f rs1 rs2) ∙ ap (bit (i % 32)) (word₂ f fits (i / 32) (omega arith))
+  bit₂ f fits l = in_word (words₂ f rs1 rs2) ∙ ap (bit (i % 32)) (word₂ f fits (i / 32) (omega arith))
 
   -- g of the exact result, where it has the lane's bits
-  pub exact-halfword : (f : ℕ → ℕ → ℤ) (g : ℤ → ℕ) → ((z : ℤ) → g z < 2 ^ 16) → 16 * i < 128
+  pub exact_halfword : (f : ℕ → ℕ → ℤ) (g : ℤ → ℕ) → ((z : ℤ) → g z < 2 ^ 16) → 16 * i < 128
       → lane 16 i (halfwords₂ (λ (x y : ℕ). g (f x y)) rs1 rs2) ≡ g (f (lane 16 i rs1) (lane 16 i rs2))
-  exact-halfword f g fits l = at-halfwords (λ (x y : ℕ). g (f x y)) (λ x y hx hy. fits _) rs1 rs2 h1 h2 i (omega arith)
+  exact_halfword f g fits l = at_halfwords (λ (x y : ℕ). g (f x y)) (λ x y hx hy. fits _) rs1 rs2 h1 h2 i (omega arith)
 
   pub exact_word : (s h : Bool) (g : ℤ → ℕ) → ((z : ℤ) → g z < 2 ^ 32) → 32 * i < 128
       → lane 32 i (words₃ (λ (x y z : ℕ). g (multiply_lane 16 s h x y z)) rs1 rs2 rs3) ≡ g (exact_result rs1 rs2 rs3 i s h 16)
   exact_word s h g fits l =
       at_words (λ (x y z : ℕ). g (multiply_lane 16 s h x y z)) (λ x y z hx hy hz. fits _) rs1 rs2 rs3 h1 h2 h3 i (omega arith)
-      ∙ ap g (of-halves rs1 rs2 rs3 i s h 16)
+      ∙ ap g (of_halves_lem rs1 rs2 rs3 i s h 16)
 
-  pub exact-long : (s h : Bool) (g : ℤ → ℕ) → ((z : ℤ) → g z < 2 ^ 64) → 64 * i < 128
+  pub exact_long : (s h : Bool) (g : ℤ → ℕ) → ((z : ℤ) → g z < 2 ^ 64) → 64 * i < 128
       → lane 64 i (longs₃ (λ (x y z : ℕ). g (multiply_lane 32 s h x y z)) rs1 rs2 rs3) ≡ g (exact_result rs1 rs2 rs3 i s h 32)
-  exact-long s h g fits l =
+  exact_long s h g fits l =
       at_longs (λ (x y z : ℕ). g (multiply_lane 32 s h x y z)) (λ x y z hx hy hz. fits _) rs1 rs2 rs3 h1 h2 h3 i (omega arith)
-      ∙ ap g (of-halves rs1 rs2 rs3 i s h 32)
+      ∙ ap g (of_halves_lem rs1 rs2 rs3 i s h 32)
 
   -- every row, at every lane of the 128 bits
-  pub at-each-lane : (o : Operation)
+  pub at_each_lane : (o : Operation)
       → (let row = lanes_of o w rs1 rs2 rs3 in row.width * i < 128 → lane row.width i (result_of o w rs1 rs2 rs3).value ≡ number_at row i)
   unfolding result_of lanes_of
-  at-each-lane li l = at_halfword (index_of w) (immediate_of w) (omega arith) rs1 h1 i (omega arith)
-  at-each-lane simal l = exact_word false false (clamped 32) (clamped-lt 32 (lit< tt)) l
-  at-each-lane simah l = exact_word false true (clamped 32) (clamped-lt 32 (lit< tt)) l
-  at-each-lane simsl l = exact_word true false (clamped 32) (clamped-lt 32 (lit< tt)) l
-  at-each-lane simsh l = exact_word true true (clamped 32) (clamped-lt 32 (lit< tt)) l
-  at-each-lane slmal l = exact-long false false (clamped 64) (clamped-lt 64 (lit< tt)) l
-  at-each-lane slmah l = exact-long false true (clamped 64) (clamped-lt 64 (lit< tt)) l
-  at-each-lane slmsl l = exact-long true false (clamped 64) (clamped-lt 64 (lit< tt)) l
-  at-each-lane slmsh l = exact-long true true (clamped 64) (clamped-lt 64 (lit< tt)) l
-  at-each-lane nop l = word₁ (λ (x : ℕ). 0) (λ x h. lit< tt) l
-  at-each-lane shrhi l =
+  at_each_lane li l = at_halfword (index_of w) (immediate_of w) (omega arith) rs1 h1 i (omega arith)
+  at_each_lane simal l = exact_word false false (clamped 32) (clamped_lt 32 (lit< tt)) l
+  at_each_lane simah l = exact_word false true (clamped 32) (clamped_lt 32 (lit< tt)) l
+  at_each_lane simsl l = exact_word true false (clamped 32) (clamped_lt 32 (lit< tt)) l
+  at_each_lane simsh l = exact_word true true (clamped 32) (clamped_lt 32 (lit< tt)) l
+  at_each_lane slmal l = exact_long false false (clamped 64) (clamped_lt 64 (lit< tt)) l
+  at_each_lane slmah l = exact_long false true (clamped 64) (clamped_lt 64 (lit< tt)) l
+  at_each_lane slmsl l = exact_long true false (clamped 64) (clamped_lt 64 (lit< tt)) l
+  at_each_lane slmsh l = exact_long true true (clamped 64) (clamped_lt 64 (lit< tt)) l
+  at_each_lane nop l = word₁ (λ (x : ℕ). 0) (λ x h. lit< tt) l
+  at_each_lane shrhi l =
       halfword₁ (λ (x : ℕ). x / 2 ^ (constant_of w % 2 ^ 4)) (λ x h. lt_of_le_of_lt (shr_le x _) h) l
       ∙ ap (λ (n : ℕ). lane 16 i rs1 / 2 ^ n) (mod-mod-pow (w / 2 ^ 10) 1 4)
-  at-each-lane au l = word₂ AU (λ x y hx hy. omega arith) i l
-  at-each-lane cntih l = halfword₁ (ones_in 16) (λ x h. lt_of_le_of_lt (ones_in_le 16 x) (lit< tt)) l ∙ ones_by_bits 16 (lane 16 i rs1)
-  at-each-lane ahs l = exact-halfword AHS (clamped 16) (clamped-lt 16 (lit< tt)) l
-  at-each-lane or l = bit₂ OR (or_lt 32) l ∙ or_by_bits (i % 32) _ _ ∙ sym (ap₂ max (in-word rs1) (in-word rs2))
-  at-each-lane bcw l = word₁ (λ (x : ℕ). rs1.w3) (λ x h. h1.w3-fits) l ∙ sym (word_lane 3 rs1 h1)
-  at-each-lane maxws l = word₂ MAXWS (λ x y hx hy. one_fits (larger x y).0 hx hy) i l
-  at-each-lane minws l = word₂ MINWS (λ x y hx hy. one_fits (smaller x y).0 hx hy) i l
-  at-each-lane mlhu l = word₂ MLHU (λ x y hx hy. (product_of_low_halves x y).1) i l ∙ ap₂ ◌*◌ (half_at 16 false i rs1) (half_at 16 false i rs2)
-  at-each-lane mlhcu l =
+  at_each_lane au l = word₂ AU (λ x y hx hy. omega arith) i l
+  at_each_lane cntih l = halfword₁ (ones_in 16) (λ x h. lt_of_le_of_lt (ones_in_le 16 x) (lit< tt)) l ∙ ones_by_bits 16 (lane 16 i rs1)
+  at_each_lane ahs l = exact_halfword AHS (clamped 16) (clamped_lt 16 (lit< tt)) l
+  at_each_lane or l = bit₂ OR (or_lt 32) l ∙ or_by_bits (i % 32) _ _ ∙ sym (ap₂ max (in_word rs1) (in_word rs2))
+  at_each_lane bcw l = word₁ (λ (x : ℕ). rs1.w3) (λ x h. h1.w3_fits) l ∙ sym (word_lane 3 rs1 h1)
+  at_each_lane maxws l = word₂ MAXWS (λ x y hx hy. one_fits (larger x y).0 hx hy) i l
+  at_each_lane minws l = word₂ MINWS (λ x y hx hy. one_fits (smaller x y).0 hx hy) i l
+  at_each_lane mlhu l = word₂ MLHU (λ x y hx hy. (product_of_low_halves x y).1) i l ∙ ap₂ ◌*◌ (half_at 16 false i rs1) (half_at 16 false i rs2)
+  at_each_lane mlhcu l =
       word₁ (λ (x : ℕ). MLHCU x (constant_of w)) (λ x h. (product_with_field x (constant_of w)).1) l
       ∙ ap₂ ◌*◌ (half_at 16 false i rs1) (mod-mod-pow (w / 2 ^ 10) 0 5)
-  at-each-lane and l = bit₂ AND (and_lt 32) l ∙ and_by_bits (i % 32) _ _ ∙ sym (ap₂ min (in-word rs1) (in-word rs2))
-  at-each-lane clzw l = word₁ CLZW (λ x h. lt_of_le_of_lt (leading_le 32 x) (lit< tt)) l
-  at-each-lane rotw l =
-      bit₂ ROTW (λ x y hx hy. rotated-lt 32 (y % 2 ^ 5) x (omega arith) hx) l ∙ rotated_by_bits (i % 32) _ _ (lane_lt 32 (i / 32) rs1) (omega arith)
+  at_each_lane and l = bit₂ AND (and_lt 32) l ∙ and_by_bits (i % 32) _ _ ∙ sym (ap₂ min (in_word rs1) (in_word rs2))
+  at_each_lane clzw l = word₁ CLZW (λ x h. lt_of_le_of_lt (leading_le 32 x) (lit< tt)) l
+  at_each_lane rotw l =
+      bit₂ ROTW (λ x y hx hy. rotated_lt 32 (y % 2 ^ 5) x (omega arith) hx) l ∙ rotated_by_bits (i % 32) _ _ (lane_lt 32 (i / 32) rs1) (omega arith)
       ∙ ap (λ (n : ℕ). bit n (lane 32 (i / 32) rs1)) (omega arith)
-  at-each-lane sfwu l = word₂ SFWU (λ x y hx hy. omega arith) i l
-  at-each-lane sfhs l = exact-halfword SFHS (clamped 16) (clamped-lt 16 (lit< tt)) l
+  at_each_lane sfwu l = word₂ SFWU (λ x y hx hy. omega arith) i l
+  at_each_lane sfhs l = exact_halfword SFHS (clamped 16) (clamped_lt 16 (lit< tt)) l

@@ -26,9 +26,9 @@ use Rattle.alu_rules.specs.Across.{words₃, halfwords₂, longs₃, lane_mark, 
 use Rattle.alu_rules.specs.Result.{result_of, outcome_of}
 use Rattle.alu_rules.proofs.Integers.{either, neg_pos}
 use Rattle.alu_rules.proofs.Bits.{bit, field_of_low}
-use Rattle.alu_rules.proofs.Clamped.{inside_pos, above, inside_neg, beneath, signed-of-clamped, clamped-lt}
-use Rattle.alu_rules.proofs.Across.{words_held, halfwords-held, longs_held}
-use Rattle.alu_rules.proofs.EachLane.{Standing, lanes_of, exact_result, exact-halfword, exact_word, exact-long}
+use Rattle.alu_rules.proofs.Clamped.{inside_pos, above, inside_neg, beneath, signed_of_clamped, clamped_lt}
+use Rattle.alu_rules.proofs.Across.{words_held, halfwords_held, longs_held}
+use Rattle.alu_rules.proofs.EachLane.{Standing, lanes_of, exact_result, exact_halfword, exact_word, exact_long}
 
 -- ---- a mark says that the clamp changed the result
 
@@ -56,7 +56,7 @@ tells_within t (negsuc n) =
 -- a result is marked exactly where its clamped bits, read, are not that result: "A lane that lands on the limit exactly has no mark."
 pub marked_where_changed : (k : ℕ) → 0 < k → (z : ℤ) → Tells true false (is_marked k z) (signed k (clamped k z)) z
 marked_where_changed k some z =
-    subst⁻¹ (λ (x : ℤ). Tells true false (is_marked k z) x z) (signed-of-clamped k some z)
+    subst⁻¹ (λ (x : ℤ). Tells true false (is_marked k z) x z) (signed_of_clamped k some z)
     (subst⁻¹ (λ (l : ℤ). Tells true false (lt_z z l || lt_z (greatest k) z) (within l (greatest k) z) z)
     (neg_pos (2 ^ (k - 1)) (pow.pow_pos (k - 1))) (tells_within (2 ^ (k - 1) - 1) z))
 
@@ -124,8 +124,8 @@ module _ (q : ℕ) (some : 0 < q) (r : Register) (held : Held r) (c : ℕ → �
     inside : 16 * q * (j / q) < 128
     inside = omega (arith, mul-div-le j q)
 
-    mark-in-halfword : lane 16 j r ≡ at_lowest q c j
-    mark-in-halfword =
+    mark_in_halfword : lane 16 j r ≡ at_lowest q c j
+    mark_in_halfword =
         ap (λ (n : ℕ). lane 16 n r) (sym (div-add-mod j q))
         ∙ halfword_of_lane q (j / q) (j % q) r (mod-lt j some)
         ∙ ap (λ (x : ℕ). x / 2 ^ (16 * (j % q)) % 2 ^ 16) (at (j / q) inside)
@@ -139,21 +139,21 @@ module _ (q : ℕ) (some : 0 < q) (r : Register) (held : Held r) (c : ℕ → �
             let beyond : c (j / q) < 2 ^ (16 * (j % q)) = lt_of_lt_of_le (digits (j / q) inside) (pow.pow_mono {i = 1} (omega arith)) in
             ap (λ (x : ℕ). x % 2 ^ 16) (div-eq_of_lt beyond) ∙ zero-mod (2 ^ 16)
 
-    lowest-lt : at_lowest q c j < 2
-    lowest-lt = go (eqb (j % q) 0)
+    lowest_lt : at_lowest q c j < 2
+    lowest_lt = go (eqb (j % q) 0)
       where
         go : (t : Bool) → cond t (c (j / q)) 0 < 2
         go true = digits (j / q) inside
         go false = omega arith
 
-  halfword-lt : (j : ℕ) → j < 8 → lane 16 j r < 2
-  halfword-lt j l = subst⁻¹ (λ (x : ℕ). x < 2) (mark-in-halfword j l) (lowest-lt j l)
+  halfword_lt : (j : ℕ) → j < 8 → lane 16 j r < 2
+  halfword_lt j l = subst⁻¹ (λ (x : ℕ). x < 2) (mark_in_halfword j l) (lowest_lt j l)
 
   -- so bit j of the mark is that of lane j / q where j is that lane's lowest halfword, and 0 elsewhere; and there are eight bits
-  pub bits-of-lanes : ((j : ℕ) → j < 8 → bit j (bits_of_lanes r) ≡ at_lowest q c j) × (bits_of_lanes r < 2 ^ 8)
-  bits-of-lanes = (
-    λ j l. ap (bit j) (by_halfwords r held) ∙ bit_of_binary 8 (λ (i : ℕ). lane 16 i r) halfword-lt j l ∙ mark-in-halfword j l,
-    subst⁻¹ (λ (x : ℕ). x < 2 ^ 8) (by_halfwords r held) (binary_lt 8 (λ (i : ℕ). lane 16 i r) halfword-lt),
+  pub bits_of_lanes_lem : ((j : ℕ) → j < 8 → bit j (bits_of_lanes r) ≡ at_lowest q c j) × (bits_of_lanes r < 2 ^ 8)
+  bits_of_lanes_lem = (
+    λ j l. ap (bit j) (by_halfwords r held) ∙ bit_of_binary 8 (λ (i : ℕ). lane 16 i r) halfword_lt j l ∙ mark_in_halfword j l,
+    subst⁻¹ (λ (x : ℕ). x < 2 ^ 8) (by_halfwords r held) (binary_lt 8 (λ (i : ℕ). lane 16 i r) halfword_lt),
   )
 
 -- ---- what a mark says of its value
@@ -161,9 +161,9 @@ module _ (q : ℕ) (some : 0 < q) (r : Register) (held : Held r) (c : ℕ → �
 -- What the mark m says of a register v whose lanes of k bits have the exact results z. Lane i begins at halfword k * i / 16, and that bit is 1 where the lane,
 -- read as a signed number, is not the exact result, and 0 where it is. Every bit whose halfword begins no lane is 0. And there are eight bits.
 pub record Marks (k : ℕ) (z : ℕ → ℤ) (v : Register) (m : ℕ) : Type 0 where
-  pub at-lanes : (i : ℕ) → k * i < 128 → Tells 1 0 (bit (k * i / 16) m) (signed k (lane k i v)) (z i)
+  pub at_lanes : (i : ℕ) → k * i < 128 → Tells 1 0 (bit (k * i / 16) m) (signed k (lane k i v)) (z i)
   pub elsewhere : (j : ℕ) → j < 8 → (16 * j % k ≡ 0 → ⊥) → bit j m ≡ 0
-  pub eight-bits : m < 2 ^ 8
+  pub eight_bits : m < 2 ^ 8
 
 -- by what stands at the lanes: of numbers the mark is 0, of exact results that are clamped it is as above
 abbrev pub MarkOf : ℕ → Standing → Register → ℕ → Type 0
@@ -172,7 +172,7 @@ MarkOf k (Standing.clamps z) v m = Marks k z v m
 
 -- what is laid over the exact results z, be it their clamp or their mark, stands at the lanes, where it has the bits of a lane
 record Laid (k : ℕ) (z : ℕ → ℤ) (over : (ℤ → ℕ) → Register) : Type 0 where
-  register-held : (g : ℤ → ℕ) → ((x : ℤ) → g x < 2 ^ k) → Held (over g)
+  register_held : (g : ℤ → ℕ) → ((x : ℤ) → g x < 2 ^ k) → Held (over g)
   stands_at : (g : ℤ → ℕ) → ((x : ℤ) → g x < 2 ^ k) → (i : ℕ) → k * i < 128 → lane k i (over g) ≡ g (z i)
 
 lane_mark_lt : (k : ℕ) (z : ℤ) → lane_mark k z < 2
@@ -187,89 +187,89 @@ module _ (q : ℕ) (some : 0 < q) (z : ℕ → ℤ) (over : (ℤ → ℕ) → Re
   abbrev lane_marks : Register
   lane_marks = over (lane_mark (16 * q))
 
-  lane-mark-fits : (x : ℤ) → lane_mark (16 * q) x < 2 ^ (16 * q)
-  lane-mark-fits x = lt_of_lt_of_le (lane_mark_lt (16 * q) x) (pow.pow_mono {i = 1} (omega arith))
+  lane_mark_fits : (x : ℤ) → lane_mark (16 * q) x < 2 ^ (16 * q)
+  lane_mark_fits x = lt_of_lt_of_le (lane_mark_lt (16 * q) x) (pow.pow_mono {i = 1} (omega arith))
 
-  in-bits : ((j : ℕ) → j < 8 → bit j (bits_of_lanes lane_marks) ≡ at_lowest q (λ (i : ℕ). lane_mark (16 * q) (z i)) j) × (bits_of_lanes lane_marks < 2 ^ 8)
-  in-bits =
-      bits-of-lanes q some lane_marks (laid.register-held (lane_mark (16 * q)) lane-mark-fits) (λ (i : ℕ). lane_mark (16 * q) (z i))
-      (laid.stands_at (lane_mark (16 * q)) lane-mark-fits) (λ i l. lane_mark_lt (16 * q) (z i))
+  in_bits : ((j : ℕ) → j < 8 → bit j (bits_of_lanes lane_marks) ≡ at_lowest q (λ (i : ℕ). lane_mark (16 * q) (z i)) j) × (bits_of_lanes lane_marks < 2 ^ 8)
+  in_bits =
+      bits_of_lanes_lem q some lane_marks (laid.register_held (lane_mark (16 * q)) lane_mark_fits) (λ (i : ℕ). lane_mark (16 * q) (z i))
+      (laid.stands_at (lane_mark (16 * q)) lane_mark_fits) (λ i l. lane_mark_lt (16 * q) (z i))
 
   -- lane i begins at bit 16 * q * i of the register, so at halfword q * i
-  at-lane : (i : ℕ) → 16 * q * i < 128 → bit (16 * q * i / 16) (bits_of_lanes lane_marks) ≡ lane_mark (16 * q) (z i)
-  at-lane i l =
+  at_lane : (i : ℕ) → 16 * q * i < 128 → bit (16 * q * i / 16) (bits_of_lanes lane_marks) ≡ lane_mark (16 * q) (z i)
+  at_lane i l =
       let place : 16 * q * i / 16 ≡ q * i = omega arith in
       ap (λ (j : ℕ). bit j (bits_of_lanes lane_marks)) place
-      ∙ in-bits.0 (q * i) (omega arith)
+      ∙ in_bits.0 (q * i) (omega arith)
       ∙ ap₂ (λ (m n : ℕ). cond (eqb m 0) (lane_mark (16 * q) (z n)) 0) (mul-mod_right q i) (mul-div_cancel_left i some)
 
-  lowest-of-lane : (j : ℕ) → j % q ≡ 0 → 16 * j % (16 * q) ≡ 0
-  lowest-of-lane j e =
+  lowest_of_lane : (j : ℕ) → j % q ≡ 0 → 16 * j % (16 * q) ≡ 0
+  lowest_of_lane j e =
       let whole = div-add-mod j q in
       let lanes : 16 * j ≡ 16 * q * (j / q) = omega arith in
       ap (λ (n : ℕ). n % (16 * q)) lanes ∙ mul-mod_right (16 * q) (j / q)
 
-  marks-of-lanes : Marks (16 * q) z (clamped_across (16 * q) over).value (clamped_across (16 * q) over).mark
-  marks-of-lanes = record {
-    at-lanes = λ i l.
-        as_bit (marked_where_changed (16 * q) (omega arith) (z i)) (at-lane i l)
-        (ap (signed (16 * q)) (laid.stands_at (clamped (16 * q)) (clamped-lt (16 * q) (omega arith)) i l));
+  marks_of_lanes : Marks (16 * q) z (clamped_across (16 * q) over).value (clamped_across (16 * q) over).mark
+  marks_of_lanes = record {
+    at_lanes = λ i l.
+        as_bit (marked_where_changed (16 * q) (omega arith) (z i)) (at_lane i l)
+        (ap (signed (16 * q)) (laid.stands_at (clamped (16 * q)) (clamped_lt (16 * q) (omega arith)) i l));
     elsewhere = λ j l other.
-        in-bits.0 j l ∙ ap (λ (t : Bool). cond t (lane_mark (16 * q) (z (j / q))) 0) (ne_eqb (j % q) 0 (λ e. other (lowest-of-lane j e)));
-    eight-bits = in-bits.1;
+        in_bits.0 j l ∙ ap (λ (t : Bool). cond t (lane_mark (16 * q) (z (j / q))) 0) (ne_eqb (j % q) 0 (λ e. other (lowest_of_lane j e)));
+    eight_bits = in_bits.1;
   }
 
 module _ (w : ℕ) (rs1 rs2 rs3 : Register) (h1 : Held rs1) (h2 : Held rs2) (h3 : Held rs3) where
-  of-halfwords : (f : ℕ → ℕ → ℤ)
+  of_halfwords : (f : ℕ → ℕ → ℤ)
       → Laid 16 (λ (i : ℕ). f (lane 16 i rs1) (lane 16 i rs2)) (λ (g : ℤ → ℕ). halfwords₂ (λ (x y : ℕ). g (f x y)) rs1 rs2)
-  of-halfwords f = record {
-    register-held = λ g fits. halfwords-held (λ (x y : ℕ). g (f x y)) (λ x y hx hy. fits _) rs1 rs2 h1 h2;
-    stands_at = λ g fits i l. exact-halfword w rs1 rs2 rs3 h1 h2 h3 i f g fits l;
+  of_halfwords f = record {
+    register_held = λ g fits. halfwords_held (λ (x y : ℕ). g (f x y)) (λ x y hx hy. fits _) rs1 rs2 h1 h2;
+    stands_at = λ g fits i l. exact_halfword w rs1 rs2 rs3 h1 h2 h3 i f g fits l;
   }
 
   of_words : (s h : Bool)
       → Laid 32 (λ (i : ℕ). exact_result rs1 rs2 rs3 i s h 16) (λ (g : ℤ → ℕ). words₃ (λ (x y z : ℕ). g (multiply_lane 16 s h x y z)) rs1 rs2 rs3)
   of_words s h = record {
-    register-held = λ g fits. words_held (λ (x y z : ℕ). g (multiply_lane 16 s h x y z)) (λ x y z hx hy hz. fits _) rs1 rs2 rs3 h1 h2 h3;
+    register_held = λ g fits. words_held (λ (x y z : ℕ). g (multiply_lane 16 s h x y z)) (λ x y z hx hy hz. fits _) rs1 rs2 rs3 h1 h2 h3;
     stands_at = λ g fits i l. exact_word w rs1 rs2 rs3 h1 h2 h3 i s h g fits l;
   }
 
-  of-longs : (s h : Bool)
+  of_longs_lem : (s h : Bool)
       → Laid 64 (λ (i : ℕ). exact_result rs1 rs2 rs3 i s h 32) (λ (g : ℤ → ℕ). longs₃ (λ (x y z : ℕ). g (multiply_lane 32 s h x y z)) rs1 rs2 rs3)
-  of-longs s h = record {
-    register-held = λ g fits. longs_held (λ (x y z : ℕ). g (multiply_lane 32 s h x y z)) (λ x y z hx hy hz. fits _) rs1 rs2 rs3 h1 h2 h3;
-    stands_at = λ g fits i l. exact-long w rs1 rs2 rs3 h1 h2 h3 i s h g fits l;
+  of_longs_lem s h = record {
+    register_held = λ g fits. longs_held (λ (x y z : ℕ). g (multiply_lane 32 s h x y z)) (λ x y z hx hy hz. fits _) rs1 rs2 rs3 h1 h2 h3;
+    stands_at = λ g fits i l. exact_long w rs1 rs2 rs3 h1 h2 h3 i s h g fits l;
   }
 
   -- every row of the table: its mark says which lanes of its value were clamped, and is 0 where the row clamps nothing
-  pub marks-at-each-lane : (o : Operation)
+  pub marks_at_each_lane : (o : Operation)
       → (let row = lanes_of o w rs1 rs2 rs3 in let got = result_of o w rs1 rs2 rs3 in MarkOf row.width row.at got.value got.mark)
   unfolding result_of lanes_of
-  marks-at-each-lane li = refl
-  marks-at-each-lane simal = marks-of-lanes 2 (lit< tt) _ _ (of_words false false)
-  marks-at-each-lane simah = marks-of-lanes 2 (lit< tt) _ _ (of_words false true)
-  marks-at-each-lane simsl = marks-of-lanes 2 (lit< tt) _ _ (of_words true false)
-  marks-at-each-lane simsh = marks-of-lanes 2 (lit< tt) _ _ (of_words true true)
-  marks-at-each-lane slmal = marks-of-lanes 4 (lit< tt) _ _ (of-longs false false)
-  marks-at-each-lane slmah = marks-of-lanes 4 (lit< tt) _ _ (of-longs false true)
-  marks-at-each-lane slmsl = marks-of-lanes 4 (lit< tt) _ _ (of-longs true false)
-  marks-at-each-lane slmsh = marks-of-lanes 4 (lit< tt) _ _ (of-longs true true)
-  marks-at-each-lane nop = refl
-  marks-at-each-lane shrhi = refl
-  marks-at-each-lane au = refl
-  marks-at-each-lane cntih = refl
-  marks-at-each-lane ahs = marks-of-lanes 1 (lit< tt) _ _ (of-halfwords AHS)
-  marks-at-each-lane or = refl
-  marks-at-each-lane bcw = refl
-  marks-at-each-lane maxws = refl
-  marks-at-each-lane minws = refl
-  marks-at-each-lane mlhu = refl
-  marks-at-each-lane mlhcu = refl
-  marks-at-each-lane and = refl
-  marks-at-each-lane clzw = refl
-  marks-at-each-lane rotw = refl
-  marks-at-each-lane sfwu = refl
-  marks-at-each-lane sfhs = marks-of-lanes 1 (lit< tt) _ _ (of-halfwords SFHS)
+  marks_at_each_lane li = refl
+  marks_at_each_lane simal = marks_of_lanes 2 (lit< tt) _ _ (of_words false false)
+  marks_at_each_lane simah = marks_of_lanes 2 (lit< tt) _ _ (of_words false true)
+  marks_at_each_lane simsl = marks_of_lanes 2 (lit< tt) _ _ (of_words true false)
+  marks_at_each_lane simsh = marks_of_lanes 2 (lit< tt) _ _ (of_words true true)
+  marks_at_each_lane slmal = marks_of_lanes 4 (lit< tt) _ _ (of_longs_lem false false)
+  marks_at_each_lane slmah = marks_of_lanes 4 (lit< tt) _ _ (of_longs_lem false true)
+  marks_at_each_lane slmsl = marks_of_lanes 4 (lit< tt) _ _ (of_longs_lem true false)
+  marks_at_each_lane slmsh = marks_of_lanes 4 (lit< tt) _ _ (of_longs_lem true true)
+  marks_at_each_lane nop = refl
+  marks_at_each_lane shrhi = refl
+  marks_at_each_lane au = refl
+  marks_at_each_lane cntih = refl
+  marks_at_each_lane ahs = marks_of_lanes 1 (lit< tt) _ _ (of_halfwords AHS)
+  marks_at_each_lane or = refl
+  marks_at_each_lane bcw = refl
+  marks_at_each_lane maxws = refl
+  marks_at_each_lane minws = refl
+  marks_at_each_lane mlhu = refl
+  marks_at_each_lane mlhcu = refl
+  marks_at_each_lane and = refl
+  marks_at_each_lane clzw = refl
+  marks_at_each_lane rotw = refl
+  marks_at_each_lane sfwu = refl
+  marks_at_each_lane sfhs = marks_of_lanes 1 (lit< tt) _ _ (of_halfwords SFHS)
 
 -- ---- "Other instructions give zero"
 

@@ -16,16 +16,16 @@ use Rattle.alu_rules.proofs.Bits.{bit, total, ones_by_bits}
 
 module _ (d : ℕ) (f : ℕ → ℕ) (fits : (y : ℕ) → f y < 2 ^ d) where
   -- field i holds what f makes of field i: nothing comes over from a neighbour
-  pub at-each-field : (n i x : ℕ) → i < n → in_fields d n f x / 2 ^ (d * i) % 2 ^ d ≡ f (x / 2 ^ (d * i) % 2 ^ d)
+  pub at_each_field : (n i x : ℕ) → i < n → in_fields d n f x / 2 ^ (d * i) % 2 ^ d ≡ f (x / 2 ^ (d * i) % 2 ^ d)
   unfolding in_fields
-  at-each-field zero i x l = absurd (omega (arith, l))
-  at-each-field (suc n) zero x l =
+  at_each_field zero i x l = absurd (omega (arith, l))
+  at_each_field (suc n) zero x l =
       let one : (y : ℕ) → y / 2 ^ (d * 0) ≡ y = λ y. ap (λ (m : ℕ). y / 2 ^ m) (mul-zero d) ∙ div-one y in
       ap (low d) (one _) ∙ pow.low _ d (fits _) ∙ ap (λ (y : ℕ). f (low d y)) (sym (one x))
-  at-each-field (suc n) (suc i) x l =
+  at_each_field (suc n) (suc i) x l =
       let next : (y : ℕ) → y / 2 ^ (d * suc i) ≡ high d y / 2 ^ (d * i) =
       λ y. ap (λ (m : ℕ). y / 2 ^ m) (omega (arith, mul-suc d i)) ∙ sym (pow.shr-shr y d (d * i)) in
-      ap (low d) (next _ ∙ ap (λ (y : ℕ). y / 2 ^ (d * i)) (pow.high _ d (fits _))) ∙ at-each-field n i (high d x) (omega arith)
+      ap (low d) (next _ ∙ ap (λ (y : ℕ). y / 2 ^ (d * i)) (pow.high _ d (fits _))) ∙ at_each_field n i (high d x) (omega arith)
       ∙ ap (λ (y : ℕ). f (low d y)) (sym (next x))
 
 -- ---- the ones of a field
@@ -61,7 +61,7 @@ sum_fits k x = subst (λ (m : ℕ). m < 2 ^ (k + k)) (sym (halves_counted k x)) 
 -- every field holds the number of ones that it has in the word: the sum of its bits
 pub ones_at_each_field : (d i w : ℕ) → i < 32 / d → ones_in_fields d w / 2 ^ (d * i) % 2 ^ d ≡ total d (λ (j : ℕ). bit (d * i + j) w)
 ones_at_each_field d i w l =
-    at-each-field d (ones_in d) (no_overflow d) (32 / d) i w l ∙ ones_of_low d _ ∙ ones_by_bits d _
+    at_each_field d (ones_in d) (no_overflow d) (32 / d) i w l ∙ ones_of_low d _ ∙ ones_by_bits d _
     ∙ (λ j. total d (λ (m : ℕ). ap (λ (n : ℕ). n % 2) (pow.shr-shr w (d * i) m) j))
 
 -- ---- the four steps

@@ -18,20 +18,20 @@ use Rattle.register.proofs.Joined.{product_fits}
 use Rattle.alu_rules.specs.Width.{signed, sum_modulo, difference_modulo}
 use Rattle.alu_rules.specs.Lane.{AU, OR, MAXWS, MINWS, MLHU, MLHCU, AND, CLZW, ROTW, SFWU}
 use Rattle.alu_rules.proofs.Integers.{either}
-use Rattle.alu_rules.proofs.Bits.{bit, bit-of-bitwise, bit-of-rotated}
+use Rattle.alu_rules.proofs.Bits.{bit, bit_of_bitwise, bit_of_rotated}
 
 -- ---- bits
 
 -- "bitwise": a bit of OR is set where either operand's is, a bit of AND where both are
 pub or_by_bits : (i a b : ℕ) → bit i (OR a b) ≡ max (bit i a) (bit i b)
-or_by_bits = bit-of-bitwise bit_or max or_step or_shr (λ a b. lt_of_le_of_lt (max-le {k = 1} (omega arith) (omega arith)) (lit< tt))
+or_by_bits = bit_of_bitwise bit_or max or_step or_shr (λ a b. lt_of_le_of_lt (max-le {k = 1} (omega arith) (omega arith)) (lit< tt))
 
 pub and_by_bits : (i a b : ℕ) → bit i (AND a b) ≡ min (bit i a) (bit i b)
-and_by_bits = bit-of-bitwise bit_and min and_step and_shr (λ a b. lt_of_le_of_lt (min-le_left (a % 2) (b % 2)) (omega arith))
+and_by_bits = bit_of_bitwise bit_and min and_step and_shr (λ a b. lt_of_le_of_lt (min-le_left (a % 2) (b % 2)) (omega arith))
 
 -- "rotated right by the low 5 bits": bit i is the one that stood so many places to its left, round the word
 pub rotated_by_bits : (i a b : ℕ) → a < 2 ^ 32 → i < 32 → bit i (ROTW a b) ≡ bit ((i + b) % 32) a
-rotated_by_bits i a b h l = bit-of-rotated 32 (b % 2 ^ 5) a (omega arith) h i l ∙ ap (λ (n : ℕ). bit n a) (add-mod-mod i b 32)
+rotated_by_bits i a b h l = bit_of_rotated 32 (b % 2 ^ 5) a (omega arith) h i l ∙ ap (λ (n : ℕ). bit n a) (add-mod-mod i b 32)
 
 -- ---- the larger and the smaller
 

@@ -14,7 +14,7 @@ use Rattle.table.specs.Fields.{is_li, is_multiply, is_long, is_subtract, is_high
 use Rattle.table.specs.Operation.{Operation, operation_of, multiply_row, short_rows, reads_of, takes_first, takes_second, takes_third}
 use Rattle.table.specs.Operation.Operation.{li, simal, simah, simsl, simsh, slmal, slmah, slmsl, slmsh}
 use Rattle.table.specs.Operation.Operation.{nop, shrhi, au, cntih, ahs, or, bcw, maxws, minws, mlhu, mlhcu, and, clzw, rotw, sfwu, sfhs}
-use Rattle.table.proofs.Rows.{each_choice, all_alike, li-word, multiply_word_lem, short-word}
+use Rattle.table.proofs.Rows.{each_choice, all_alike, li_word, multiply_word_lem, short_word}
 use Rattle.alu_rules.specs.declared.Outcome.{Outcome}
 use Rattle.alu_rules.specs.Result.{result_of, outcome_of}
 
@@ -70,13 +70,13 @@ no_third : (k : ℕ) → takes_third (reads_of (get_or short_rows k nop)) ≡ fa
 no_third k = sym (get_or-map (λ (o : Operation). takes_third (reads_of o)) short_rows k nop) ∙ all_alike false 16 k
 
 short_third : (k w : ℕ) (a b c d : Register) → result_of (get_or short_rows k nop) w a b c ≡ result_of (get_or short_rows k nop) w a b d
-short_third k w a b c d = with-zero c ∙ sym (with-zero d)
+short_third k w a b c d = with_zero c ∙ sym (with_zero d)
   where
     o : Operation
     o = get_or short_rows k nop
 
-    with-zero : (x : Register) → result_of o w a b x ≡ result_of o w (gate (takes_first (reads_of o)) a) (gate (takes_second (reads_of o)) b) zero_register
-    with-zero x =
+    with_zero : (x : Register) → result_of o w a b x ≡ result_of o w (gate (takes_first (reads_of o)) a) (gate (takes_second (reads_of o)) b) zero_register
+    with_zero x =
         gated o w a b x
         ∙ ap (λ (t : Bool). result_of o w (gate (takes_first (reads_of o)) a) (gate (takes_second (reads_of o)) b) (gate t x)) (no_third k)
 
@@ -104,26 +104,26 @@ unmarked_row w a b e not-ahs not-sfhs f g =
 
 module _ (w : ℕ) {l : Bool} (is-li : l ≡ is_li w) where
   module _ (yes : l ≡ true) where
-    pub li-result : (a b c : Register) {r : Outcome} → r ≡ unmarked (with_halfword (index_of w) (immediate_of w) a) → r ≡ outcome_of w a b c
+    pub li_result : (a b c : Register) {r : Outcome} → r ≡ unmarked (with_halfword (index_of w) (immediate_of w) a) → r ≡ outcome_of w a b c
     unfolding outcome_of result_of
-    li-result a b c e = e ∙ sym (ap (λ (o : Operation). result_of o w a b c) (li-word w is-li yes))
+    li_result a b c e = e ∙ sym (ap (λ (o : Operation). result_of o w a b c) (li_word w is-li yes))
 
   module _ {m : Bool} (other : l ≡ false) (is-multiply : m ≡ is_multiply w) where
     module _ (yes : m ≡ true) where
-      pub multiply-result : (a b c : Register) {r : Outcome} → r ≡ multiplied (is_long w) (is_subtract w) (is_high w) a b c → r ≡ outcome_of w a b c
+      pub multiply_result : (a b c : Register) {r : Outcome} → r ≡ multiplied (is_long w) (is_subtract w) (is_high w) a b c → r ≡ outcome_of w a b c
       unfolding outcome_of
-      multiply-result a b c e =
+      multiply_result a b c e =
           e
           ∙ sym (ap (λ (o : Operation). result_of o w a b c) (multiply_word_lem w is-li other is-multiply yes)
           ∙ row_multiplies w a b c (is_long w) (is_subtract w) (is_high w))
 
     module _ (no : m ≡ false) where
-      pub short-result : (a b c : Register) {r : Outcome} → r ≡ result_of (get_or short_rows (code_of w) nop) w a b zero_register → r ≡ outcome_of w a b c
+      pub short_result : (a b c : Register) {r : Outcome} → r ≡ result_of (get_or short_rows (code_of w) nop) w a b zero_register → r ≡ outcome_of w a b c
       unfolding outcome_of
-      short-result a b c e =
+      short_result a b c e =
           e
           ∙ short_third (code_of w) w a b zero_register c
-          ∙ sym (ap (λ (o : Operation). result_of o w a b c) (short-word w is-li other is-multiply no))
+          ∙ sym (ap (λ (o : Operation). result_of o w a b c) (short_word w is-li other is-multiply no))
 
 -- a code below 16 that is none of 0 to 14 is 15. `Others c k`: c is none of 0 to k - 1
 abbrev pub Others : ℕ → ℕ → Type 0

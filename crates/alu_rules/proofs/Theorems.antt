@@ -18,7 +18,7 @@ use Rattle.table.specs.Operation.Operation.{nop, bcw}
 use Rattle.alu_rules.specs.declared.Outcome.{Outcome}
 use Rattle.alu_rules.specs.Across.{unmarked, multiplied}
 use Rattle.alu_rules.specs.Result.{result_of, outcome_of}
-use Rattle.alu_rules.proofs.Rows.{li-result, multiply-result, short-result}
+use Rattle.alu_rules.proofs.Rows.{li_result, multiply_result, short_result}
 
 pub broadcast : (w : ℕ) (rs1 rs2 rs3 : Register) {word : ℕ} → get_or (row_of rs1) 3 0 ≡ word → row_of (result_of bcw w rs1 rs2 rs3).value ≡ word ∷ word ∷ word ∷ word ∷ []
 unfolding result_of
@@ -57,12 +57,12 @@ module _ (w v : ℕ) (w-no-li : is_li w ≡ false) (w-short : is_multiply w ≡ 
       let rd : bits_of 4 0 w ≡ bits_of 4 0 v = omega (arith, alike) in
       rw (w-no-li, w-short, v-no-li, v-short, same_code, rd)
 
-  pub same-result : (a b c d : Register) → outcome_of w a b c ≡ outcome_of v a b d
-  same-result a b c d =
+  pub same_result : (a b c d : Register) → outcome_of w a b c ≡ outcome_of v a b d
+  same_result a b c d =
       let same-constant : constant_of w ≡ constant_of v = omega (arith, alike) in
-      sym (short-result w refl w-no-li refl w-short a b c refl)
+      sym (short_result w refl w-no-li refl w-short a b c refl)
       ∙ short_alike w v same_code same-constant a b
-      ∙ short-result v refl v-no-li refl v-short a b d refl
+      ∙ short_result v refl v-no-li refl v-short a b d refl
 
 -- two words that agree in all bits above rd give the same value and mark from the same operands: neither belongs to where it is written
 module _ (w v : ℕ) (above-rd : w / 2 ^ 5 ≡ v / 2 ^ 5) (a b c : Register) where
@@ -70,28 +70,28 @@ module _ (w v : ℕ) (above-rd : w / 2 ^ 5 ≡ v / 2 ^ 5) (a b c : Register) whe
   same_bits : (k n : ℕ) → w / 2 ^ (5 + k) % n ≡ v / 2 ^ (5 + k) % n
   same_bits k n = ap (λ (x : ℕ). x % n) (sym (shr-shr w 5 k) ∙ ap (λ (x : ℕ). x / 2 ^ k) above-rd ∙ shr-shr v 5 k)
 
-  pub whatever-rd : outcome_of w a b c ≡ outcome_of v a b c
-  whatever-rd = by_kind (is_li w) refl (is_multiply w) refl
+  pub whatever_rd : outcome_of w a b c ≡ outcome_of v a b c
+  whatever_rd = by_kind (is_li w) refl (is_multiply w) refl
     where
-      same-li : is_li w ≡ is_li v
-      same-li = ap (λ (x : ℕ). eqb x 0) (same_bits 19 (2 ^ 1))
+      same_li : is_li w ≡ is_li v
+      same_li = ap (λ (x : ℕ). eqb x 0) (same_bits 19 (2 ^ 1))
 
-      same-multiply : is_multiply w ≡ is_multiply v
-      same-multiply = ap (λ (x : ℕ). eqb x 2) (same_bits 18 (2 ^ 2))
+      same_multiply : is_multiply w ≡ is_multiply v
+      same_multiply = ap (λ (x : ℕ). eqb x 2) (same_bits 18 (2 ^ 2))
 
       one_bit : (k : ℕ) → eqb (w / 2 ^ (5 + k) % 2 ^ 1) 1 ≡ eqb (v / 2 ^ (5 + k) % 2 ^ 1) 1
       one_bit k = ap (λ (x : ℕ). eqb x 1) (same_bits k (2 ^ 1))
 
       by_kind : (l : Bool) → is_li w ≡ l → (m : Bool) → is_multiply w ≡ m → outcome_of w a b c ≡ outcome_of v a b c
       by_kind true e m f =
-          sym (li-result w refl e a b c refl)
+          sym (li_result w refl e a b c refl)
           ∙ (λ i. unmarked (with_halfword (same_bits 16 (2 ^ 3) i) (same_bits 0 (2 ^ 16) i) a))
-          ∙ li-result v refl (sym same-li ∙ e) a b c refl
+          ∙ li_result v refl (sym same_li ∙ e) a b c refl
       by_kind false e true f =
-          sym (multiply-result w refl e refl f a b c refl)
+          sym (multiply_result w refl e refl f a b c refl)
           ∙ (λ i. multiplied (one_bit 17 i) (one_bit 16 i) (one_bit 15 i) a b c)
-          ∙ multiply-result v refl (sym same-li ∙ e) refl (sym same-multiply ∙ f) a b c refl
+          ∙ multiply_result v refl (sym same_li ∙ e) refl (sym same_multiply ∙ f) a b c refl
       by_kind false e false f =
-          sym (short-result w refl e refl f a b c refl)
+          sym (short_result w refl e refl f a b c refl)
           ∙ short_alike w v (same_bits 10 (2 ^ 4)) (same_bits 5 (2 ^ 5)) a b
-          ∙ short-result v refl (sym same-li ∙ e) refl (sym same-multiply ∙ f) a b c refl
+          ∙ short_result v refl (sym same_li ∙ e) refl (sym same_multiply ∙ f) a b c refl

@@ -2,6 +2,8 @@
 // Where a file is named as an argument, its bytes are the job's registers, 16 each. A text or a job that is refused writes nothing there, and standard error says with
 // which number, and of a text also in which line.
 
+#![tactic(auto)]
+
 ghost use Rattle.console.specs.Input.{CameInto};
 
 use console::arguments::read_argument;
@@ -17,7 +19,7 @@ use text_reader::{BYTES_TO_READ, read_text};
 const REGISTER_BYTES: usize = 513;
 
 // The edition that is asked for, and the number of the argument behind it.
-#[derive(Drop)]
+#[derive(Clone, Copy)]
 enum Asked {
     For(Edition, usize),
     // something else stands behind `--edition`

@@ -26,6 +26,8 @@
 //
 // A program's lines are the words that are named, and zeros behind them. A unit is printed as a record is written, up to its words.
 
+#![tactic(auto)]
+
 ghost use Rattle.std.specs.Prelude.{◌≤◌, length};
 
 mod case;

@@ -11,16 +11,16 @@ module _ (length start size : ℕ) {t : Bool} (test : t ≡ leb (start + size) l
   pub enough : t ≡ true → start + size ≤ length
   enough h = leb-true _ _ (sym test ∙ h)
 
-  pub too-little : t ≡ false → length < start + size
-  too-little h = leb-false _ _ (sym test ∙ h)
+  pub too_little : t ≡ false → length < start + size
+  too_little h = leb-false _ _ (sym test ∙ h)
 
   -- the part from the start on, of a buffer as long
   module _ (room : t ≡ true) {m : ℕ} (same : m ≡ length) where
-    pub starts-within : start ≤ m
-    starts-within = omega (arith, enough room)
+    pub starts_within : start ≤ m
+    starts_within = omega (arith, enough room)
 
-    pub part-long : {k : ℕ} → k ≡ m - start → size ≤ k
-    part-long e = omega (arith, enough room)
+    pub part_long : {k : ℕ} → k ≡ m - start → size ≤ k
+    part_long e = omega (arith, enough room)
 
 -- the two tests of the code are that one
 module _ (length start size : ℕ) where

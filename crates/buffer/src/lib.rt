@@ -1,5 +1,7 @@
 // Bytes at a place of a lent buffer, and whether there is room for them. What a writer leaves of a buffer is defined in `specs/`.
 
+#![tactic(auto)]
+
 ghost use Rattle.std.specs.Prelude.{◌+◌, ◌≤◌, ◌≡◌, leb, length, take};
 ghost use Rattle.buffer.specs.Front.{at_front};
 

@@ -15,7 +15,7 @@ use unit_rules::Unit;
 const ROOM: usize = PATH_MAX + 5;
 
 // The unit, and how many bytes are kept of the line that has not ended yet.
-#[derive(Drop)]
+#[derive(Clone, Copy)]
 struct Progress {
     unit: Unit,
     kept: usize,

@@ -1,5 +1,7 @@
 // Reads a script of calls from standard input, one a line, makes them on one unit, which is fresh at first, and prints each line as it is with its answer behind it.
 
+#![tactic(auto)]
+
 mod answers;
 mod ask;
 mod calls;

@@ -6,7 +6,7 @@ use crate::output::say;
 use libc::STDIN_FILENO;
 
 // How many bytes came, at the front of the buffer; or that the input could not be read, and then none.
-#[derive(Drop)]
+#[derive(Clone, Copy)]
 pub struct Came {
     pub failed: bool,
     pub size: usize,

@@ -1,5 +1,7 @@
 // What reader, writer and the unit's record share of the two editions: where the instructions begin, and what register 0 may hold.
 
+#![tactic(auto)]
+
 ghost use Rattle.std.specs.Prelude.{◌≡◌};
 ghost use Rattle.job_rules.specs.Layout.{instructions_at};
 ghost use Rattle.job_rules.specs.Program.{may_hold};

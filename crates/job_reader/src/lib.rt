@@ -1,5 +1,7 @@
 // The reader of job files: by what the header says, the words and the registers behind it.
 
+#![tactic(auto)]
+
 ghost use Rattle.std.specs.Prelude.{◌+◌, ◌*◌, ◌≤◌, ◌≡◌, length, get_or, drop};
 ghost use Rattle.register.specs.Layout.{zero_register};
 ghost use Rattle.job_rules.specs.Layout.{bytes_to_read, size_of, words_in, registers_of};

@@ -4,11 +4,11 @@
 use Rattle.job_rules.proofs.Shared.{ℕ, zero, suc, ◌+◌, ◌-◌, ◌*◌, ◌≤◌, ◌<◌, ◌≡◌, refl, sym, ap, ◌∙◌, List, [], ◌∷◌, ◌++◌, flat_map, append_assoc}
 use Rattle.job_rules.proofs.Shared.{append-nil, add_assoc, add-zero, arith, length, get_or, take, drop, set, replicate, length-append}
 use Rattle.job_rules.proofs.Shared.{length-drop, drop_of_length-le, take-append-drop, take_at, set_at, append_snoc, drop-drop, get_or-drop}
-use Rattle.job_rules.proofs.Shared.{take-suc, length-take-le, get_or-take, at_front, Register, zero_register, word_at, of_bytes, Bytes, Edition}
-use Rattle.job_rules.proofs.Shared.{One, Two, instructions_at, registers_at, four_bytes, header_bytes, register_count, encode, pieces, registers_of, filled}
+use Rattle.job_rules.proofs.Shared.{take-suc, length-take-le, get_or-take, in_front, Register, zero_register, word_at, of_bytes, Bytes, Edition}
+use Rattle.job_rules.proofs.Shared.{One, Two, instructions_at, registers_at, four_bytes_lem, header_bytes, register_count, encode, pieces, registers_of, filled}
 use native.Mathlib.Numerals.{add-one, unary_clauses}
 use borrow.Rule.Slice.PartMut.{mid_of, put_mid}
-use Rattle.buffer.proofs.Parts.{then-front}
+use Rattle.buffer.proofs.Parts.{then_front}
 use Rattle.register.proofs.Equality.{same}
 
 pub bytes_behind : (k : ℕ) (l : List ℕ) → Bytes l → Bytes (drop k l)
@@ -16,8 +16,8 @@ bytes_behind k l b i = rw (get_or-drop k l i 0) (b (k + i))
 
 module _ {A : Type 0} where
   -- a store behind the elements that an array is filled with
-  pub one-filled : (size : ℕ) (none x : A) (l : List A) → length l < size → set (filled size none l) (length l) x ≡ filled size none (l ++ (x ∷ []))
-  one-filled size none x l h =
+  pub one_filled : (size : ℕ) (none x : A) (l : List A) → length l < size → set (filled size none l) (length l) x ≡ filled size none (l ++ (x ∷ []))
+  one_filled size none x l h =
       let left : size - length l ≡ suc (size - suc (length l)) = omega arith in
       let n : length (l ++ (x ∷ [])) ≡ suc (length l) = omega (arith, length-append l (x ∷ [])) in
       rw (left, n)
@@ -25,9 +25,9 @@ module _ {A : Type 0} where
       ∙ sym (append_snoc l x (replicate (size - suc (length l)) none)))
 
   module _ (says : List ℕ → A) (k : ℕ) where
-    pub length-pieces : (n : ℕ) (l : List ℕ) → length (pieces says k n l) ≡ n
-    length-pieces zero l = refl
-    length-pieces (suc n) l = ap suc (length-pieces n (drop k l))
+    pub length_pieces : (n : ℕ) (l : List ℕ) → length (pieces says k n l) ≡ n
+    length_pieces zero l = refl
+    length_pieces (suc n) l = ap suc (length_pieces n (drop k l))
 
     one_more : (n : ℕ) (l : List ℕ) → pieces says k (suc n) l ≡ pieces says k n l ++ (says (drop (k * n) l) ∷ [])
     one_more zero l = simp unary_clauses refl
@@ -36,74 +36,74 @@ module _ {A : Type 0} where
         ap (λ (t : List A). says l ∷ t) (one_more n (drop k l) ∙ rw (drop-drop (k * n) k l, e))
 
     -- a turn of the loop that reads
-    pub next-read : (size : ℕ) (none : A) (l : List ℕ) (at i : ℕ) (xs : List A) (x : A) → i < size
+    pub next_read : (size : ℕ) (none : A) (l : List ℕ) (at i : ℕ) (xs : List A) (x : A) → i < size
         → xs ≡ filled size none (pieces says k i (drop at l)) → x ≡ says (drop (at + k * i) l)
         → set xs i x ≡ filled size none (pieces says k (i + 1) (drop at l))
-    next-read size none l at i xs x h e f =
-        let n = length-pieces i (drop at l) in
+    next_read size none l at i xs x h e f =
+        let n = length_pieces i (drop at l) in
         let more : pieces says k (i + 1) (drop at l) ≡ pieces says k i (drop at l) ++ (x ∷ [])
         = rw (add-one, one_more i (drop at l), drop-drop (k * i) at l, f) in
-        let stored = one-filled size none x (pieces says k i (drop at l)) (omega arith) in
+        let stored = one_filled size none x (pieces says k i (drop at l)) (omega arith) in
         rw (e, more) (ap (λ (j : ℕ). set (filled size none (pieces says k i (drop at l))) j x) (sym n) ∙ stored)
 
 -- ---- written
 
 module _ {A : Type 0} (bytes : A → List ℕ) where
-  pub pieces-join : (xs ys : List A) → flat_map bytes (xs ++ ys) ≡ flat_map bytes xs ++ flat_map bytes ys
+  pub pieces_join : (xs ys : List A) → flat_map bytes (xs ++ ys) ≡ flat_map bytes xs ++ flat_map bytes ys
   unfolding flat_map
-  pieces-join [] ys = refl
-  pieces-join (x ∷ xs) ys = ap (λ (l : List ℕ). bytes x ++ l) (pieces-join xs ys) ∙ sym (append_assoc (bytes x) (flat_map bytes xs) (flat_map bytes ys))
+  pieces_join [] ys = refl
+  pieces_join (x ∷ xs) ys = ap (λ (l : List ℕ). bytes x ++ l) (pieces_join xs ys) ∙ sym (append_assoc (bytes x) (flat_map bytes xs) (flat_map bytes ys))
 
   one_piece : (x : A) → flat_map bytes (x ∷ []) ≡ bytes x
   unfolding flat_map
   one_piece x = append-nil (bytes x)
 
   module _ (k : ℕ) (each : (x : A) → length (bytes x) ≡ k) where
-    pub pieces-size : (xs : List A) → length (flat_map bytes xs) ≡ k * length xs
+    pub pieces_size : (xs : List A) → length (flat_map bytes xs) ≡ k * length xs
     unfolding flat_map
-    pieces-size [] = simp unary_clauses refl
-    pieces-size (x ∷ xs) = simp unary_clauses (length-append (bytes x) (flat_map bytes xs) ∙ omega (arith, each x, pieces-size xs))
+    pieces_size [] = simp unary_clauses refl
+    pieces_size (x ∷ xs) = simp unary_clauses (length-append (bytes x) (flat_map bytes xs) ∙ omega (arith, each x, pieces_size xs))
 
     -- a turn of the loop that writes: the next piece at the front of the part behind those before it
-    pub next-written : (none : A) (xs : List A) (old out part : List ℕ) (i : ℕ) → i < length xs → out ≡ at_front (flat_map bytes (take i xs)) old
-        → part ≡ at_front (bytes (get_or xs i none)) (mid_of (k * i) (length out - k * i) out)
-        → put_mid (k * i) (length out - k * i) out part ≡ at_front (flat_map bytes (take (i + 1) xs)) old
-    next-written none xs old out part i h e f =
-        let n : length (flat_map bytes (take i xs)) ≡ k * i = pieces-size (take i xs) ∙ ap (λ (j : ℕ). k * j) (length-take-le i xs (omega arith)) in
-        then-front (k * i) (flat_map bytes (take i xs)) (bytes (get_or xs i none)) old out part n e f
-        ∙ rw (add-one, take-suc xs i none h, pieces-join (take i xs) (get_or xs i none ∷ []), one_piece (get_or xs i none))
+    pub next_written : (none : A) (xs : List A) (old out part : List ℕ) (i : ℕ) → i < length xs → out ≡ in_front (flat_map bytes (take i xs)) old
+        → part ≡ in_front (bytes (get_or xs i none)) (mid_of (k * i) (length out - k * i) out)
+        → put_mid (k * i) (length out - k * i) out part ≡ in_front (flat_map bytes (take (i + 1) xs)) old
+    next_written none xs old out part i h e f =
+        let n : length (flat_map bytes (take i xs)) ≡ k * i = pieces_size (take i xs) ∙ ap (λ (j : ℕ). k * j) (length-take-le i xs (omega arith)) in
+        then_front (k * i) (flat_map bytes (take i xs)) (bytes (get_or xs i none)) old out part n e f
+        ∙ rw (add-one, take-suc xs i none h, pieces_join (take i xs) (get_or xs i none ∷ []), one_piece (get_or xs i none))
 
     -- the same of a piece that is copied from a buffer of its own
-    pub next-copied : (none : A) (xs : List A) (old out part b : List ℕ) (i : ℕ) → i < length xs → out ≡ at_front (flat_map bytes (take i xs)) old
-        → b ≡ bytes (get_or xs i none) → part ≡ at_front b (mid_of (k * i) (length out - k * i) out)
-        → put_mid (k * i) (length out - k * i) out part ≡ at_front (flat_map bytes (take (i + 1) xs)) old
-    next-copied none xs old out part b i h e g f =
-        next-written none xs old out part i h e (f ∙ ap (λ (l : List ℕ). at_front l (mid_of (k * i) (length out - k * i) out)) g)
+    pub next_copied : (none : A) (xs : List A) (old out part b : List ℕ) (i : ℕ) → i < length xs → out ≡ in_front (flat_map bytes (take i xs)) old
+        → b ≡ bytes (get_or xs i none) → part ≡ in_front b (mid_of (k * i) (length out - k * i) out)
+        → put_mid (k * i) (length out - k * i) out part ≡ in_front (flat_map bytes (take (i + 1) xs)) old
+    next_copied none xs old out part b i h e g f =
+        next_written none xs old out part i h e (f ∙ ap (λ (l : List ℕ). in_front l (mid_of (k * i) (length out - k * i) out)) g)
 
     -- pieces that fill the buffer
-    pub pieces-fill : (xs : List A) (old out : List ℕ) → length old ≤ k * length xs → out ≡ at_front (flat_map bytes xs) old → out ≡ flat_map bytes xs
-    pieces-fill xs old out h e =
-        let all = drop_of_length-le old {i = length (flat_map bytes xs)} (omega (arith, pieces-size xs)) in
+    pub pieces_fill : (xs : List A) (old out : List ℕ) → length old ≤ k * length xs → out ≡ in_front (flat_map bytes xs) old → out ≡ flat_map bytes xs
+    pieces_fill xs old out h e =
+        let all = drop_of_length-le old {i = length (flat_map bytes xs)} (omega (arith, pieces_size xs)) in
         e ∙ ap (λ (l : List ℕ). flat_map bytes xs ++ l) all ∙ append-nil (flat_map bytes xs)
 
     -- the bytes of the first n pieces
     pub first_pieces : (n : ℕ) (xs : List A) → n ≤ length xs → take (k * n) (flat_map bytes xs) ≡ flat_map bytes (take n xs)
     first_pieces n xs h =
-        ap (take (k * n)) (sym (ap (flat_map bytes) (take-append-drop n xs)) ∙ pieces-join (take n xs) (drop n xs))
-        ∙ take_at (flat_map bytes (take n xs)) _ (k * n) (pieces-size (take n xs) ∙ ap (λ (j : ℕ). k * j) (length-take-le n xs h))
+        ap (take (k * n)) (sym (ap (flat_map bytes) (take-append-drop n xs)) ∙ pieces_join (take n xs) (drop n xs))
+        ∙ take_at (flat_map bytes (take n xs)) _ (k * n) (pieces_size (take n xs) ∙ ap (λ (j : ℕ). k * j) (length-take-le n xs h))
 
   -- what was read is written as it stood
-  pub pieces-back : (says : List ℕ → A) (k : ℕ) → ((l : List ℕ) → Bytes l → k ≤ length l → bytes (says l) ++ drop k l ≡ l)
+  pub pieces_back : (says : List ℕ → A) (k : ℕ) → ((l : List ℕ) → Bytes l → k ≤ length l → bytes (says l) ++ drop k l ≡ l)
       → (n : ℕ) (l : List ℕ) → Bytes l → k * n ≤ length l → flat_map bytes (pieces says k n l) ++ drop (k * n) l ≡ l
   unfolding flat_map
-  pieces-back says k back zero l b h = simp unary_clauses refl
-  pieces-back says k back (suc n) l b h =
+  pieces_back says k back zero l b h = simp unary_clauses refl
+  pieces_back says k back (suc n) l b h =
       let e : k * suc n ≡ k + k * n = simp unary_clauses (omega arith) in
       let others : List ℕ = flat_map bytes (pieces says k n (drop k l)) in
       append_assoc (bytes (says l)) others (drop (k * suc n) l)
       ∙ ap (λ (t : List ℕ). bytes (says l) ++ t)
       (ap (λ (t : List ℕ). others ++ t) (ap (λ (j : ℕ). drop j l) e ∙ sym (drop-drop (k * n) k l))
-      ∙ pieces-back says k back n (drop k l) (bytes_behind k l b) (omega (arith, length-drop k l)))
+      ∙ pieces_back says k back n (drop k l) (bytes_behind k l b) (omega (arith, length-drop k l)))
       ∙ back l b (omega arith)
 
 -- ---- a word and a register from a place on
@@ -121,7 +121,7 @@ pub next_byte : (l : List ℕ) (at i : ℕ) (xs : List ℕ) (x : ℕ) → i < 16
 next_byte l at i xs x h room e f =
     let behind = length-drop at l in
     let n : length (take i (drop at l)) ≡ i = length-take-le i (drop at l) (omega arith) in
-    let stored = one-filled 16 0 x (take i (drop at l)) (omega arith) in
+    let stored = one_filled 16 0 x (take i (drop at l)) (omega arith) in
     rw (e, add-one, take-suc (drop at l) i 0 (omega arith), get_or-drop at l i 0, ← f)
     (ap (λ (j : ℕ). set (filled 16 0 (take i (drop at l))) j x) (sym n) ∙ stored)
 
@@ -150,18 +150,18 @@ first_of_some (suc r) l some e = e
 
 -- and of register bytes: none where they are too few for one, and else the first 16, which a buffer of 16 takes
 module _ (l : List ℕ) where
-  pub too-few-bytes : length l < 16 → zero_register ≡ get_or (registers_of (register_count l) l) 0 zero_register
-  too-few-bytes h = first_of_none (register_count l) l (omega arith)
+  pub too_few_bytes : length l < 16 → zero_register ≡ get_or (registers_of (register_count l) l) 0 zero_register
+  too_few_bytes h = first_of_none (register_count l) l (omega arith)
 
-  pub first-sixteen : {v : Register} {b : List ℕ} → 16 ≤ length l → b ≡ at_front (take 16 l) (replicate 16 0) → v ≡ of_bytes b
+  pub first_sixteen : {v : Register} {b : List ℕ} → 16 ≤ length l → b ≡ in_front (take 16 l) (replicate 16 0) → v ≡ of_bytes b
       → v ≡ get_or (registers_of (register_count l) l) 0 zero_register
-  first-sixteen h e f =
-      let sixteen : at_front (take 16 l) (replicate 16 0) ≡ take 16 l = rw (length-take-le 16 l h) (append-nil (take 16 l)) in
+  first_sixteen h e f =
+      let sixteen : in_front (take 16 l) (replicate 16 0) ≡ take 16 l = rw (length-take-le 16 l h) (append-nil (take 16 l)) in
       first_of_some (register_count l) l (λ none. omega arith) (register_there l (e ∙ sixteen) f)
 
 -- ---- a whole job
 
-four_bytes_lem : (w : ℕ) → length (four_bytes w) ≡ 4
+four_bytes_lem : (w : ℕ) → length (four_bytes_lem w) ≡ 4
 four_bytes_lem w = refl
 
 -- where the instructions stand: behind the four numbers, and so near that two bytes say it
@@ -178,24 +178,24 @@ module _ (edition : Edition) (words bytes : List ℕ) where
   abbrev header : List ℕ
   header = header_bytes edition (length words) (register_count bytes)
 
-  pub header-and-words : length (header ++ flat_map four_bytes words) ≡ registers_at edition (length words)
-  header-and-words =
+  pub header_and_words : length (header ++ flat_map four_bytes_lem words) ≡ registers_at edition (length words)
+  header_and_words =
       let size = header_size edition (length words) (register_count bytes) in
-      omega (arith, length-append header (flat_map four_bytes words), pieces-size four_bytes 4 four_bytes_lem words)
+      omega (arith, length-append header (flat_map four_bytes_lem words), pieces_size four_bytes_lem 4 four_bytes_lem words)
 
-  pub job-size : length (encode edition words bytes) ≡ instructions_at edition + 4 * length words + length bytes
+  pub job_size : length (encode edition words bytes) ≡ instructions_at edition + 4 * length words + length bytes
   unfolding encode
-  job-size = omega (arith, length-append (header ++ flat_map four_bytes words) bytes, header-and-words)
+  job_size = omega (arith, length-append (header ++ flat_map four_bytes_lem words) bytes, header_and_words)
 
   -- header, words and register bytes, each at the front of the part behind the one before
-  pub job-put : (at : ℕ) (old x y z : List ℕ) → at ≡ instructions_at edition
-      → x ≡ at_front header old
-      → y ≡ at_front (flat_map four_bytes words) (mid_of at (length x - at) x)
-      → z ≡ at_front bytes (mid_of (at + 4 * length words) (length (put_mid at (length x - at) x y) - (at + 4 * length words)) (put_mid at (length x - at) x y))
+  pub job_put : (at : ℕ) (old x y z : List ℕ) → at ≡ instructions_at edition
+      → x ≡ in_front header old
+      → y ≡ in_front (flat_map four_bytes_lem words) (mid_of at (length x - at) x)
+      → z ≡ in_front bytes (mid_of (at + 4 * length words) (length (put_mid at (length x - at) x y) - (at + 4 * length words)) (put_mid at (length x - at) x y))
       → put_mid (at + 4 * length words) (length (put_mid at (length x - at) x y) - (at + 4 * length words)) (put_mid at (length x - at) x y) z
-      ≡ at_front (encode edition words bytes) old
+      ≡ in_front (encode edition words bytes) old
   unfolding encode
-  job-put at old x y z there e f g =
+  job_put at old x y z there e f g =
       let size = header_size edition (length words) (register_count bytes) in
-      then-front (at + 4 * length words) (header ++ flat_map four_bytes words) bytes old _ z (omega (arith, header-and-words))
-      (then-front at header (flat_map four_bytes words) old x y (omega arith) e f) g
+      then_front (at + 4 * length words) (header ++ flat_map four_bytes_lem words) bytes old _ z (omega (arith, header_and_words))
+      (then_front at header (flat_map four_bytes_lem words) old x y (omega arith) e f) g

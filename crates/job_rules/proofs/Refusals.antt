@@ -1,7 +1,7 @@
 -- What reader and writer answer by their tests, and what it says of a file or a job that none of them refuses it. Carried by the laws of decisions.
 -- Assumes nothing.
 use Rattle.job_rules.proofs.Shared.{ℕ, ◌+◌, ◌*◌, ◌%◌, ◌≤◌, ◌<◌, ◌≡◌, refl, sym, ap, ◌∙◌, List, Bool, true, false, cond, not, arith}
-use Rattle.job_rules.proofs.Shared.{eq-eqb, ne_eqb, ltb-false, eqb-true, not-false, eqb, length, get_or, take, drop, take_at, at_front, Register}
+use Rattle.job_rules.proofs.Shared.{eq-eqb, ne_eqb, ltb-false, eqb-true, not-false, eqb, length, get_or, take, drop, take_at, in_front, Register}
 use Rattle.job_rules.proofs.Shared.{zero_register, word_at, of_bytes, Edition, One, Two, WORD, NONZERO, first_bad, Counts, Refused, Job, ReadJob, Written}
 use Rattle.job_rules.proofs.Shared.{instructions_at, registers_at, size_of, register_count, encode, two_at, edition_in, says_edition, words_in}
 use Rattle.job_rules.proofs.Shared.{registers_of, may_hold, filled, job_of, accepted_of, refused_of, tested_of, header_of, number_of, body_of, answer_for}
@@ -9,7 +9,7 @@ use Rattle.job_rules.proofs.Shared.{read_as, written_of, size_or_refusal, write_
 use Rattle.table.specs.declared.Count.{Count}
 use Rattle.table.proofs.Decided.{none_refused, neither_held, deciding}
 use Rattle.job_rules.specs.declared.Header.{Header}
-use Rattle.job_rules.proofs.Pieces.{length-pieces}
+use Rattle.job_rules.proofs.Pieces.{length_pieces}
 
 -- ---- the header
 
@@ -31,11 +31,11 @@ pub record Taken (edition : Edition) (l : List ℕ) : Type 0 where
   pub whole : 8 ≤ length l
   pub few : two_at l 0 ≤ 64
   pub fewer : two_at l 2 ≤ 32
-  pub right-first : two_at l 4 ≡ instructions_at edition
-  pub whole-header : instructions_at edition ≤ length l
-  pub right-edition : says_edition edition l ≡ true
-  pub right-second : two_at l 6 ≡ registers_at edition (two_at l 0)
-  pub right-size : length l ≡ size_of edition (two_at l 0) (two_at l 2)
+  pub right_first : two_at l 4 ≡ instructions_at edition
+  pub whole_header : instructions_at edition ≤ length l
+  pub right_edition : says_edition edition l ≡ true
+  pub right_second : two_at l 6 ≡ registers_at edition (two_at l 0)
+  pub right_size : length l ≡ size_of edition (two_at l 0) (two_at l 2)
 
 pub header_taken : (edition : Edition) (l : List ℕ) → number_of (header_of edition l) ≡ 0 → Taken edition l
 unfolding header_of tested_of
@@ -46,11 +46,11 @@ header_taken edition l e =
       whole = ltb-false (length l) 8 passed.0;
       few = ltb-false 64 (two_at l 0) passed.1.0;
       fewer = ltb-false 32 (two_at l 2) passed.1.1.0;
-      right-first = eqb-true (two_at l 4) (instructions_at edition) (not-false _ behind.0);
-      whole-header = ltb-false (length l) (instructions_at edition) behind.1.0;
-      right-edition = not-false _ behind.1.1.0;
-      right-second = eqb-true (two_at l 6) (registers_at edition (two_at l 0)) (not-false _ behind.1.1.1.0);
-      right-size = eqb-true (length l) (size_of edition (two_at l 0) (two_at l 2)) (not-false _ behind.1.1.1.1.0);
+      right_first = eqb-true (two_at l 4) (instructions_at edition) (not-false _ behind.0);
+      whole_header = ltb-false (length l) (instructions_at edition) behind.1.0;
+      right_edition = not-false _ behind.1.1.0;
+      right_second = eqb-true (two_at l 6) (registers_at edition (two_at l 0)) (not-false _ behind.1.1.1.0);
+      right_size = eqb-true (length l) (size_of edition (two_at l 0) (two_at l 2)) (not-false _ behind.1.1.1.1.0);
     }
 
 pub header_counts : (edition : Edition) (l : List ℕ) → Taken edition l → Counts edition (record { 0 = two_at l 0 }) (two_at l 2) ≡ header_of edition l
@@ -84,36 +84,36 @@ counts_fit edition l of n r e =
 
 module _ (edition : Edition) (l : List ℕ) (n r : ℕ) {at : ℕ} {words : List ℕ} {bad : ℕ} (there : at ≡ instructions_at edition)
     (read : words ≡ filled 64 0 (words_in n (drop at l))) (first : bad ≡ first_bad (take n words)) where
-  first-of-file : bad ≡ first_bad (words_in n (drop at l))
-  first-of-file =
+  first_of_file : bad ≡ first_bad (words_in n (drop at l))
+  first_of_file =
       first ∙ ap (λ (ws : List ℕ). first_bad (take n ws)) read
-      ∙ ap first_bad (take_at (words_in n (drop at l)) _ n (length-pieces (λ (m : List ℕ). word_at m 0) 4 n (drop at l)))
+      ∙ ap first_bad (take_at (words_in n (drop at l)) _ n (length_pieces (λ (m : List ℕ). word_at m 0) 4 n (drop at l)))
 
-  pub bad-in-file : {v : ReadJob} → bad < n → v ≡ refused_of WORD bad → v ≡ body_of edition l n r
+  pub bad_in_file : {v : ReadJob} → bad < n → v ≡ refused_of WORD bad → v ≡ body_of edition l n r
   unfolding body_of
-  bad-in-file h e = e ∙ rw (← there, ← first-of-file) (search deciding)
+  bad_in_file h e = e ∙ rw (← there, ← first_of_file) (search deciding)
 
   module _ {v : Register} {held : Bool} (good : n ≤ bad) (zeroth : v ≡ get_or (registers_of r (drop (at + 4 * n) l)) 0 zero_register) (asked : held ≡ may_hold edition v) where
-    held-in-file : held ≡ may_hold edition (get_or (registers_of r (drop (at + 4 * n) l)) 0 zero_register)
-    held-in-file = asked ∙ ap (may_hold edition) zeroth
+    held_in_file : held ≡ may_hold edition (get_or (registers_of r (drop (at + 4 * n) l)) 0 zero_register)
+    held_in_file = asked ∙ ap (may_hold edition) zeroth
 
-    pub nonzero-in-file : {a : ReadJob} → not held ≡ true → a ≡ refused_of NONZERO 0 → a ≡ body_of edition l n r
+    pub nonzero_in_file : {a : ReadJob} → not held ≡ true → a ≡ refused_of NONZERO 0 → a ≡ body_of edition l n r
     unfolding body_of
-    nonzero-in-file h e = e ∙ rw (← there, ← first-of-file, ← held-in-file) (search deciding)
+    nonzero_in_file h e = e ∙ rw (← there, ← first_of_file, ← held_in_file) (search deciding)
 
-    pub job-in-file : {registers : List Register} → not held ≡ false → registers ≡ filled 32 zero_register (registers_of r (drop (at + 4 * n) l))
+    pub job_in_file : {registers : List Register} → not held ≡ false → registers ≡ filled 32 zero_register (registers_of r (drop (at + 4 * n) l))
         → accepted_of (record { program = record { words = words; n = record { 0 = n }; edition = edition }; registers = registers; r = r })
         ≡ body_of edition l n r
     unfolding body_of
-    job-in-file h rest =
+    job_in_file h rest =
         rw (
           ← there,
-          ← first-of-file,
-          ← held-in-file,
+          ← first_of_file,
+          ← held_in_file,
           read,
           rest,
-          length-pieces (λ (m : List ℕ). word_at m 0) 4 n (drop at l),
-          length-pieces of_bytes 16 r (drop (at + 4 * n) l),
+          length_pieces (λ (m : List ℕ). word_at m 0) 4 n (drop at l),
+          length_pieces of_bytes 16 r (drop (at + 4 * n) l),
         )
         (search deciding)
 
@@ -125,9 +125,9 @@ module _ (edition : Edition) (words bytes out : List ℕ) {answer : Written} (as
   unfolding write_of
   not_written h = rw (← asked, ne_eqb _ _ h)
 
-  pub job-written : {new : List ℕ} → answer.refusal ≡ 0 → new ≡ at_front (encode edition words bytes) out → (answer, new) ≡ write_of edition words bytes out
+  pub job_written : {new : List ℕ} → answer.refusal ≡ 0 → new ≡ in_front (encode edition words bytes) out → (answer, new) ≡ write_of edition words bytes out
   unfolding write_of
-  job-written h e = rw (← asked, eq-eqb _ _ h, e)
+  job_written h e = rw (← asked, eq-eqb _ _ h, e)
 
 -- ---- what is known of a job that the writer accepts
 
@@ -170,9 +170,9 @@ unfolding write_of
 accepts edition words bytes out e = asked_accepts edition words bytes (length out) e
 
 pub written : (edition : Edition) (words bytes out : List ℕ) → Accepts edition words bytes (length out)
-    → write_of edition words bytes out ≡ (written_of 0 0 (length (encode edition words bytes)), at_front (encode edition words bytes) out)
+    → write_of edition words bytes out ≡ (written_of 0 0 (length (encode edition words bytes)), in_front (encode edition words bytes) out)
 written edition words bytes out a =
-    sym (job-written edition words bytes out (asked_fits edition words bytes (length out) a) refl refl)
+    sym (job_written edition words bytes out (asked_fits edition words bytes (length out) a) refl refl)
 
 -- ---- what is known of a file that the reader accepts
 

@@ -3,7 +3,7 @@
 -- it over what the two calls promise, `write_of` and `read_of`.
 -- Assumes nothing.
 use Rattle.job_rules.proofs.Shared.{ℕ, filled, ◌≤◌, ◌+◌, ◌*◌, le_refl, arith, ◌≡◌, refl, sym, ap, ◌∙◌, Bool, true, false, not, ◌||◌, List, []}
-use Rattle.job_rules.proofs.Shared.{◌∷◌, flat_map, ne_eqb, ltb, eqb, length, get_or, take, drop, replicate, take-append_seam, at_front, Register}
+use Rattle.job_rules.proofs.Shared.{◌∷◌, flat_map, ne_eqb, ltb, eqb, length, get_or, take, drop, replicate, take-append_seam, in_front, Register}
 use Rattle.job_rules.proofs.Shared.{zero_register, bytes_of, Edition, One, Two, PLACE, first_bad, Counts, Refused, Job, ReadJob, Written, Bytes}
 use Rattle.job_rules.proofs.Shared.{instructions_at, LARGEST, registers_at, size_of, register_count, encode, two_at, edition_in, words_in, registers_of}
 use Rattle.job_rules.proofs.Shared.{lines_of, may_hold, job_of, accepted_of, refused_of, tested_of, header_of, body_of, answer_for, read_as, read_of}
@@ -12,9 +12,9 @@ use mathlib.Core.Logic.{◌↔◌}
 use Rattle.register.proofs.Theorems.{zero_exactly}
 use Rattle.table.specs.Decided.{decided}
 use Rattle.table.proofs.Decided.{each, deciding}
-use Rattle.job_rules.proofs.Pieces.{first_pieces, job-size}
+use Rattle.job_rules.proofs.Pieces.{first_pieces, job_size}
 use Rattle.job_rules.proofs.Refusals.{not_written, accepts, written, accepted, read}
-use Rattle.job_rules.proofs.RoundTrip.{says-n, says-words, says-bytes, encoded-edition, read-encoded, file-again, bytes-again, accepts-again}
+use Rattle.job_rules.proofs.RoundTrip.{says_n, says_words, says_bytes, encoded_edition, read_encoded, file_again, bytes_again, accepts_again}
 
 -- ---- both ways
 
@@ -27,16 +27,16 @@ read_written edition words bytes out e =
     let job = encode edition words bytes in
     ap (λ (w : Written × List ℕ). read_of (take w.0.size w.1)) (written edition words bytes out a)
     ∙ ap read_of (take-append_seam job (drop (length job) out))
-    ∙ read-encoded edition words bytes a.job
+    ∙ read_encoded edition words bytes a.job
 
 -- Writing what was read from an accepted file, in the edition that was read, gives the same bytes.
 pub written_read : (l out : List ℕ) → Bytes l → (read_of l).refusal ≡ 0 → length l ≤ length out
     → write_of (read_of l).job.program.edition (lines_of (read_of l).job.program) (register_bytes_of (read_of l).job) out
-    ≡ (written_of 0 0 (length l), at_front l out)
+    ≡ (written_of 0 0 (length l), in_front l out)
 written_read l out b e room =
     let a = accepted (edition_in l) l e in
-    let again = file-again (edition_in l) l b a in
-    written _ _ _ out (accepts-again (edition_in l) l b a out room) ∙ (λ i. (written_of 0 0 (length (again i)), at_front (again i) out))
+    let again = file_again (edition_in l) l b a in
+    written _ _ _ out (accepts_again (edition_in l) l b a out room) ∙ (λ i. (written_of 0 0 (length (again i)), in_front (again i) out))
 
 -- A job's register bytes, as the writer takes them, are the first 16 r of the bytes of its 32 registers.
 pub registers_handed : (j : Job) → j.r ≤ length j.registers → take (16 * j.r) (flat_map bytes_of j.registers) ≡ register_bytes_of j
@@ -51,25 +51,25 @@ pub same_bytes_lem : (edition : Edition) (words bytes out : List ℕ) (edition' 
 same_bytes_lem edition words bytes out edition' words' bytes' out' e e' same =
     let a = (accepts edition words bytes out e).job in
     let b = (accepts edition' words' bytes' out' e').job in
-    let of : edition ≡ edition' = sym (encoded-edition edition words bytes a) ∙ ap edition_in same ∙ encoded-edition edition' words' bytes' b in
-    let n : length words ≡ length words' = sym (says-n edition words bytes a) ∙ ap (λ (l : List ℕ). two_at l 0) same ∙ says-n edition' words' bytes' b in (
+    let of : edition ≡ edition' = sym (encoded_edition edition words bytes a) ∙ ap edition_in same ∙ encoded_edition edition' words' bytes' b in
+    let n : length words ≡ length words' = sym (says_n edition words bytes a) ∙ ap (λ (l : List ℕ). two_at l 0) same ∙ says_n edition' words' bytes' b in (
       of,
-      sym (says-words edition words bytes a) ∙ (λ i. words_in (n i) (drop (instructions_at (of i)) (same i))) ∙ says-words edition' words' bytes' b,
-      sym (says-bytes edition words bytes a) ∙ (λ i. drop (registers_at (of i) (n i)) (same i)) ∙ says-bytes edition' words' bytes' b,
+      sym (says_words edition words bytes a) ∙ (λ i. words_in (n i) (drop (instructions_at (of i)) (same i))) ∙ says_words edition' words' bytes' b,
+      sym (says_bytes edition words bytes a) ∙ (λ i. drop (registers_at (of i) (n i)) (same i)) ∙ says_bytes edition' words' bytes' b,
     )
 
 -- Two accepted files that are read as the same job are the same file.
 pub same_job : (l l' : List ℕ) → Bytes l → Bytes l' → (read_of l).refusal ≡ 0 → (read_of l').refusal ≡ 0 → (read_of l).job ≡ (read_of l').job → l ≡ l'
 same_job l l' b b' e e' same =
-    sym (file-again (edition_in l) l b (accepted (edition_in l) l e))
+    sym (file_again (edition_in l) l b (accepted (edition_in l) l e))
     ∙ (λ i. encode (same i).program.edition (lines_of (same i).program) (register_bytes_of (same i)))
-    ∙ file-again (edition_in l') l' b' (accepted (edition_in l') l' e')
+    ∙ file_again (edition_in l') l' b' (accepted (edition_in l') l' e')
 
 -- the writer's output for some job: an edition, words and register bytes that it puts, as this file, at the front of every buffer with room
 abbrev pub Output : List ℕ → Type 0
 Output l =
     (edition : Edition) × (words : List ℕ) × (bytes : List ℕ) × Bytes bytes
-    × ((out : List ℕ) → length l ≤ length out → write_of edition words bytes out ≡ (written_of 0 0 (length l), at_front l out))
+    × ((out : List ℕ) → length l ≤ length out → write_of edition words bytes out ≡ (written_of 0 0 (length l), in_front l out))
 
 -- A file is accepted exactly when it is the writer's output for some job.
 pub accepted_exactly : (l : List ℕ) → Bytes l → ((read_of l).refusal ≡ 0) ↔ Output l
@@ -80,7 +80,7 @@ accepted_exactly l b = (gives, given)
       (read_of l).job.program.edition,
       lines_of (read_of l).job.program,
       register_bytes_of (read_of l).job,
-      bytes-again (edition_in l) l b (accepted (edition_in l) l e),
+      bytes_again (edition_in l) l b (accepted (edition_in l) l e),
       λ out room. written_read l out b e room,
     )
 
@@ -103,7 +103,7 @@ refused_unaltered edition words bytes out h = ap (λ (w : Written × List ℕ). 
 pub never_larger_in : (edition : Edition) (l : List ℕ) → (read_as edition l).refusal ≡ 0 → length l ≤ size_of edition 64 32
 never_larger_in edition l e =
     let t = (accepted edition l e).header in
-    omega (arith, t.few, t.fewer, t.right-size)
+    omega (arith, t.few, t.fewer, t.right_size)
 
 pub never_larger : (l : List ℕ) → (read_of l).refusal ≡ 0 → length l ≤ LARGEST
 never_larger l e = by (edition_in l) (never_larger_in (edition_in l) l e)
@@ -125,13 +125,13 @@ pub size_written : (edition : Edition) (words bytes out : List ℕ) → (write_o
 size_written edition words bytes out e =
     let a = accepts edition words bytes out e in
     let whole = a.job.whole in
-    ap (λ (w : Written × List ℕ). w.0.size) (written edition words bytes out a) ∙ omega (arith, job-size edition words bytes)
+    ap (λ (w : Written × List ℕ). w.0.size) (written edition words bytes out a) ∙ omega (arith, job_size edition words bytes)
 
 -- ---- the two editions
 
 -- No file is a job of both.
 pub no_file_of_both : (l : List ℕ) → (read_as One l).refusal ≡ 0 → (read_as Two l).refusal ≡ 0 → ⊥
-no_file_of_both l e f = omega (arith, (accepted One l e).header.right-first, (accepted Two l f).header.right-first)
+no_file_of_both l e f = omega (arith, (accepted One l e).header.right_first, (accepted Two l f).header.right_first)
 
 -- The job that is read is of the edition that the first offset says.
 pub read_edition : (l : List ℕ) → (read_of l).refusal ≡ 0 → (read_of l).job.program.edition ≡ edition_in l
@@ -145,7 +145,7 @@ first_readers_answer_4 l e =
     let whole = t.whole in
     let few = t.few in
     let fewer = t.fewer in
-    let other : two_at l 4 ≡ 8 → ⊥ = λ first. omega (arith, t.right-first) in
+    let other : two_at l 4 ≡ 8 → ⊥ = λ first. omega (arith, t.right_first) in
     let answer : Refused PLACE ≡ header_of One l = search deciding depth 12 in
     sym (ap (answer_for l) answer)
 

@@ -70,21 +70,21 @@ module _ (l : List ℕ) where
   number_cut edition =
       λ i. number_for edition (two 0 (omega arith) i) (two 2 (omega arith) i) (two 4 (omega arith) i) (says edition i) (two 6 (omega arith) i)
 
-  edition-cut : edition_in l ≡ edition_in cut
-  edition-cut = λ i. cond (eqb (two 4 (omega arith) i) (instructions_at Two)) Two One
+  edition_cut : edition_in l ≡ edition_in cut
+  edition_cut = λ i. cond (eqb (two 4 (omega arith) i) (instructions_at Two)) Two One
 
   -- a file over 780 bytes is answered as its first 781 bytes are
-  first-bytes-decide : LARGEST < length l → read_of l ≡ read_of cut
-  first-bytes-decide long =
+  first_bytes_decide : LARGEST < length l → read_of l ≡ read_of cut
+  first_bytes_decide long =
       read_too_long (edition_in l) l long
       ∙ ap (λ (k : ℕ). refused_of k 0) (number_cut (edition_in l))
       ∙ sym (read_too_long (edition_in l) cut (omega (arith, length-take-le (suc LARGEST) l long)))
-      ∙ ap (λ (edition : Edition). read_as edition cut) edition-cut
+      ∙ ap (λ (edition : Edition). read_as edition cut) edition_cut
 
 -- so the first 781 bytes of any file decide what is read of it
 pub first_781_bytes : (l : List ℕ) → read_of (take bytes_to_read l) ≡ read_of l
 first_781_bytes l = by (ltb LARGEST (length l)) refl
   where
     by : (t : Bool) → ltb LARGEST (length l) ≡ t → read_of (take bytes_to_read l) ≡ read_of l
-    by true e = sym (first-bytes-decide l (ltb-true LARGEST (length l) e))
+    by true e = sym (first_bytes_decide l (ltb-true LARGEST (length l) e))
     by false e = ap read_of (take_all bytes_to_read l (omega (arith, ltb-false LARGEST (length l) e)))

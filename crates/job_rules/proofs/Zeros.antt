@@ -69,13 +69,13 @@ zero_beyond_r l i =
 
 module _ (edition : Edition) (words bytes out : List ℕ) where
   -- A job that is refused has no size.
-  pub refused-size : ((write_of edition words bytes out).0.refusal ≡ 0 → ⊥) → (write_of edition words bytes out).0.size ≡ 0
+  pub refused_size : ((write_of edition words bytes out).0.refusal ≡ 0 → ⊥) → (write_of edition words bytes out).0.size ≡ 0
   unfolding write_of size_or_refusal
-  refused-size =
+  refused_size =
       each (λ (w : Written). (w.refusal ≡ 0 → ⊥) → w.size ≡ 0) _ _ (λ _. refl, (λ _. refl, (λ _. refl, (λ _. refl, (λ _. refl, tt))))) (λ h. absurd (h refl))
 
   -- Where the number is not 6 the place is 0.
-  pub place-written : ((write_of edition words bytes out).0.refusal ≡ WORD → ⊥) → (write_of edition words bytes out).0.place ≡ 0
+  pub place_written : ((write_of edition words bytes out).0.refusal ≡ WORD → ⊥) → (write_of edition words bytes out).0.place ≡ 0
   unfolding write_of size_or_refusal
-  place-written =
+  place_written =
       each (λ (w : Written). (w.refusal ≡ WORD → ⊥) → w.place ≡ 0) _ _ (λ _. refl, (λ _. refl, (λ h. absurd (h refl), (λ _. refl, (λ _. refl, tt))))) (λ _. refl)

@@ -1,10 +1,12 @@
 // Job files: what they say and what reader and writer answer, in `specs/`; that both ways give back what went in, in `proofs/`. There is no code.
 
+#![tactic(auto)]
+
 use register::Register;
 use table::{Count, Edition};
 
 // A program: its n lines in front of 64 words, and the edition of the card that it is for.
-#[derive(Drop)]
+#[derive(Clone, Copy)]
 pub struct Program {
     pub words: [u32; 64],
     pub n: Count,
@@ -12,7 +14,7 @@ pub struct Program {
 }
 
 // A job: a program and the first r registers. Zero beyond the n lines and the r registers.
-#[derive(Drop)]
+#[derive(Clone, Copy)]
 pub struct Job {
     pub program: Program,
     pub registers: [Register; 32],
@@ -21,7 +23,7 @@ pub struct Job {
 
 // What reading a file answers: 0 and the job, or the number that it is refused with, with 6 the place of the first bad word, and a job of zeros and of the first
 // edition.
-#[derive(Drop)]
+#[derive(Clone, Copy)]
 pub struct ReadJob {
     pub refusal: u32,
     pub place: usize,
@@ -29,7 +31,7 @@ pub struct ReadJob {
 }
 
 // What writing a file answers: 0 and its size, or the number that the job is refused with, with 6 the place of the first bad word.
-#[derive(Drop)]
+#[derive(Clone, Copy)]
 pub struct Written {
     pub refusal: u32,
     pub place: usize,
@@ -37,7 +39,7 @@ pub struct Written {
 }
 
 // What a file's first bytes and its size say.
-#[derive(Drop)]
+#[derive(Clone, Copy)]
 pub enum Header {
     // of which edition it is, and how many words and how many registers follow
     Counts(Edition, Count, usize),

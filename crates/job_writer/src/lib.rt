@@ -1,5 +1,7 @@
 // The writer of job files: where its tests refuse nothing, header, words and register bytes, each into its own part of the buffer.
 
+#![tactic(auto)]
+
 ghost use Rattle.std.specs.Prelude.{◌+◌, ◌*◌, ◌≤◌, ◌≡◌, length};
 ghost use mathlib.Core.List.{flat_map};
 ghost use Rattle.buffer.specs.Front.{at_front};

@@ -1,5 +1,7 @@
 // Reads a job from standard input, and prints the listing of its program. A job that is refused prints nothing there, and standard error says with which number.
 
+#![tactic(auto)]
+
 use console::input::read_input;
 use console::output::{print_front, write_refused};
 use job_reader::BYTES_TO_READ;

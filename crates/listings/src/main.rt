@@ -1,5 +1,7 @@
 // For each job file named as an argument: its name on a line, then the listing of its program, or `REFUSED` with the number, and an empty line.
 
+#![tactic(auto)]
+
 use console::arguments::{print_argument, read_argument};
 use console::output::{print, print_front, write_refused};
 use job_reader::BYTES_TO_READ;

@@ -112,25 +112,25 @@ module _ (M : Stages) where
   instr_in (holds x) = holds x.instr
 
   module _ (Good : M.Instr → Type 0) (Ok : M.File → Type 0) (law : Lawful M Good Ok) where
-    ok-executed : (x : Slot M.Instr) (f : M.File) → Ok f → Ok (executed x f)
-    ok-executed empty f k = k
-    ok-executed (holds i) f k = law.keeps i (outcome i f) f k
+    ok_executed : (x : Slot M.Instr) (f : M.File) → Ok f → Ok (executed x f)
+    ok_executed empty f k = k
+    ok_executed (holds i) f k = law.keeps i (outcome i f) f k
 
-    ok-all : (line : ℕ → Slot M.Instr) (f : M.File) → Ok f → (c : ℕ) → Ok (executed_all line c f)
-    ok-all line f k zero = k
-    ok-all line f k (suc c) = ok-executed (line c) (executed_all line c f) (ok-all line f k c)
+    ok_all : (line : ℕ → Slot M.Instr) (f : M.File) → Ok f → (c : ℕ) → Ok (executed_all line c f)
+    ok_all line f k zero = k
+    ok_all line f k (suc c) = ok_executed (line c) (executed_all line c f) (ok_all line f k c)
 
-    ok-written : (x : Slot (Latched M.Instr M.Out)) (f : M.File) → Ok f → Ok (through_wb x f)
-    ok-written empty f k = k
-    ok-written (holds x) f k = law.keeps x.instr x.rest f k
+    ok_written : (x : Slot (Latched M.Instr M.Out)) (f : M.File) → Ok f → Ok (through_wb x f)
+    ok_written empty f k = k
+    ok_written (holds x) f k = law.keeps x.instr x.rest f k
 
     -- ---- from a pipeline that is told by its file
 
-    cycled-holding : (f : M.File) → Ok f → (x y z new : Slot M.Instr) → GoodIn Good x → cycled new (holding f x y z) ≡ holding (executed x f) y z new
-    cycled-holding f k empty empty z new g = refl
-    cycled-holding f k empty (holds i) z new g = refl
-    cycled-holding f k (holds j) empty z new g = refl
-    cycled-holding f k (holds j) (holds i) z new g = rw (law.forwards j i (outcome j f) f g k)
+    cycled_holding : (f : M.File) → Ok f → (x y z new : Slot M.Instr) → GoodIn Good x → cycled new (holding f x y z) ≡ holding (executed x f) y z new
+    cycled_holding f k empty empty z new g = refl
+    cycled_holding f k empty (holds i) z new g = refl
+    cycled_holding f k (holds j) empty z new g = refl
+    cycled_holding f k (holds j) (holds i) z new g = rw (law.forwards j i (outcome j f) f g k)
 
     -- it stays so: after t cycles its file has what reached WB, executed one after another
     pub held_on : (line : ℕ → Slot M.Instr) (f : M.File) → Ok f → (x y z : Slot M.Instr) → ((k : ℕ) → GoodIn Good (behind x y z line k)) → (t : ℕ)
@@ -140,25 +140,25 @@ module _ (M : Stages) where
     held_on line f k x y z good (suc t) =
         let next = behind x y z line in
         ap (cycled (line t)) (held_on line f k x y z good t)
-        ∙ cycled-holding (executed_all next t f) (ok-all next f k t) (next t) (next (suc t)) (next (suc (suc t))) (line t) (good t)
+        ∙ cycled_holding (executed_all next t f) (ok_all next f k t) (next t) (next (suc t)) (next (suc (suc t))) (line t) (good t)
 
     -- ---- from any pipeline whatsoever
 
     -- what EX makes of operands that were read, with what WB writes, is told by the file after that write
-    worked-told : (x : Slot (Latched M.Instr M.Out)) (z : Slot M.Instr) (f : M.File) → Ok f → GoodIn Good (instr_in x)
+    worked_told : (x : Slot (Latched M.Instr M.Out)) (z : Slot M.Instr) (f : M.File) → Ok f → GoodIn Good (instr_in x)
         → through_ex x (through_id z f) ≡ done z (through_wb x f)
-    worked-told empty empty f k g = refl
-    worked-told empty (holds i) f k g = refl
-    worked-told (holds x) empty f k g = refl
-    worked-told (holds x) (holds i) f k g = rw (law.forwards x.instr i x.rest f g k)
+    worked_told empty empty f k g = refl
+    worked_told empty (holds i) f k g = refl
+    worked_told (holds x) empty f k g = refl
+    worked_told (holds x) (holds i) f k g = rw (law.forwards x.instr i x.rest f g k)
 
-    good-worked : (x : Slot (Latched M.Instr M.Out)) (y : Slot (Latched M.Instr M.Ops)) → GoodIn Good (instr_in y) → GoodIn Good (instr_in (through_ex x y))
-    good-worked x empty g = g
-    good-worked x (holds y) g = g
+    good_worked : (x : Slot (Latched M.Instr M.Out)) (y : Slot (Latched M.Instr M.Ops)) → GoodIn Good (instr_in y) → GoodIn Good (instr_in (through_ex x y))
+    good_worked x empty g = g
+    good_worked x (holds y) g = g
 
     -- after two cycles every value that is latched was read, or worked, since: all that the pipeline holds is told by its file
     pub settles : (s : Pipe M) → Ok s.file → GoodIn Good (instr_in s.idex) → (a b : Slot M.Instr)
         → cycled b (cycled a s) ≡ holding (cycled b (cycled a s)).file s.ifid a b
     settles s k g a b =
         let t = cycled a s in
-        rw (worked-told t.exwb s.ifid t.file (ok-written s.exwb s.file k) (good-worked s.exwb s.idex g))
+        rw (worked_told t.exwb s.ifid t.file (ok_written s.exwb s.file k) (good_worked s.exwb s.idex g))

@@ -21,20 +21,20 @@ use Rattle.plain_rules.specs.declared.Executed.{Executed}
 use Rattle.plain_rules.specs.declared.ExecutedProgram.{ExecutedProgram}
 use Rattle.plain_rules.specs.Machine.{cleared_for, executed_registers, plain_rows, marks_rows, cleared_rows, executed_rows}
 use Rattle.plain_rules.specs.Answer.{answer_of}
-use Rattle.plain_rules.proofs.Theorems.{cleared-converted, registers_as_rows, marks_of_registers}
+use Rattle.plain_rules.proofs.Theorems.{cleared_converted, registers_as_rows, marks_of_registers}
 
 -- the list l, of n entries, filled up to i with h of those of f
 module _ {A B : Type 0} (h : A → B) (none : A) (f : List A) (l : List B) (i n : ℕ) (whole : length f ≡ n) (room : length l ≡ n)
     (so_far : take i l ≡ take i (map h f)) where
-  pub next-filled : i < n → {b : B} → b ≡ h (get_or f i none) → take (i + 1) (set l i b) ≡ take (i + 1) (map h f)
-  next-filled k e =
+  pub next_filled : i < n → {b : B} → b ≡ h (get_or f i none) → take (i + 1) (set l i b) ≡ take (i + 1) (map h f)
+  next_filled k e =
       rw add-one
       (take-suc-set l i _ (omega arith)
       ∙ ap₂ (λ (q : List B) (y : B). q ++ (y ∷ [])) so_far (e ∙ sym (get_or-map h f i none))
       ∙ sym (take-suc (map h f) i (h none) (omega (arith, length-map f h))))
 
-  pub all-filled : n ≤ i → l ≡ map h f
-  all-filled k = sym (take_all i l (omega arith)) ∙ so_far ∙ take_all i (map h f) (omega (arith, length-map f h))
+  pub all_filled : n ≤ i → l ≡ map h f
+  all_filled k = sym (take_all i l (omega arith)) ∙ so_far ∙ take_all i (map h f) (omega (arith, length-map f h))
 
 -- every row that a function is handed has four words, so that it is the row of its register
 rows_again : (xs : List (List ℕ)) (us : List Val) → shadow (each (List ℕ) (Array builtin.u32 4).own_val xs us) → map row_of (map of_row xs) ≡ xs
@@ -48,7 +48,7 @@ pub on_registers : (edition : Edition) (p : List ℕ) (rows : List (List ℕ)) (
 on_registers edition p rows m is before after written =
     let ran = after ∙ ap (λ (l : List Register). executed_registers edition p l m) before in
     let rows-cleared : map row_of (cleared_for edition zero_register (map of_row rows)) ≡ cleared_rows edition rows
-    = cleared-converted (λ r. r) (λ r. r) zero_register of_row row_of [] row_of (λ x. refl) (λ v. refl) refl edition zero_register (map of_row rows)
+    = cleared_converted (λ r. r) (λ r. r) zero_register of_row row_of [] row_of (λ x. refl) (λ v. refl) refl edition zero_register (map of_row rows)
     ∙ ap (cleared_rows edition) (rows_again rows is.0 is.1.1) in
     let left = written ∙ ap (λ (x : List Register × List ℕ). map row_of x.0) ran
     ∙ registers_as_rows edition p (cleared_for edition zero_register (map of_row rows)) ∙ ap (plain_rows edition p) rows-cleared in

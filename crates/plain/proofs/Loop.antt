@@ -1,4 +1,4 @@
--- The loop over lines: what the code leaves of a word of each kind is what the plain machine leaves, registers and marks. Carried by `one_more` and `one-more-mark`.
+-- The loop over lines: what the code leaves of a word of each kind is what the plain machine leaves, registers and marks. Carried by `one_more` and `one_more_mark`.
 -- Assumes nothing.
 use Prim.Native.Nat.{ℕ, zero, suc, ◌+◌, ◌<◌, ◌≤◌}
 use mathlib.Core.Path.{◌≡◌, refl, sym, ap, subst, ◌∙◌}
@@ -22,10 +22,10 @@ use Rattle.table.proofs.Decided.{the_first, the_second}
 use Rattle.alu_rules.specs.declared.Outcome.{Outcome}
 use Rattle.alu_rules.specs.Across.{unmarked, multiplied}
 use Rattle.alu_rules.specs.Result.{result_of, outcome_of}
-use Rattle.alu_rules.proofs.Rows.{li-result, multiply-result, short-result}
+use Rattle.alu_rules.proofs.Rows.{li_result, multiply_result, short_result}
 use Rattle.plain_rules.specs.Machine.{outcome_on, step_on, plain_on, marks_on, step, plain, marks, executed_registers}
 use Rattle.plain_rules.proofs.Theorems.{one_more}
-use Rattle.plain_rules.proofs.Marks.{as_many, one-more-mark}
+use Rattle.plain_rules.proofs.Marks.{as_many, one_more_mark}
 
 -- what a word gives from registers
 abbrev given : ℕ → List Register → Outcome
@@ -57,11 +57,11 @@ other_taken One d h = refl
 other_taken Two d h = ne_eqb d.0 0 h
 
 module _ (free : Bool) (d : Pointer) where
-  zero-taken : free ≡ true → is_wired (edition_by free) d ≡ false
-  zero-taken e = rw e
+  zero_taken : free ≡ true → is_wired (edition_by free) d ≡ false
+  zero_taken e = rw e
 
-  zero-not-taken : d.0 ≡ 0 → free ≡ false → is_wired (edition_by free) d ≡ true
-  zero-not-taken h e = rw e (eq-eqb d.0 0 h)
+  zero_not_taken : d.0 ≡ 0 → free ≡ false → is_wired (edition_by free) d ≡ true
+  zero_not_taken h e = rw e (eq-eqb d.0 0 h)
 
 -- nothing is stored where a list has no place
 pub set_beyond : {A : Type 0} (l : List A) (i : ℕ) (x : A) → length l ≤ i → l ≡ set l i x
@@ -76,41 +76,41 @@ asked_mark m i x y false e f = sym (set_beyond m i x (ltb-false i (length m) (sy
 
 -- the registers g and the marks n after the first i lines of p, begun on the registers f and laid over the marks m
 pub record Done (edition : Edition) (p : List ℕ) (i : ℕ) (f : List Register) (m : List ℕ) (g : List Register) (n : List ℕ) : Type 0 where
-  pub registers-left : g ≡ plain edition (take i p) f
-  pub marks-laid : n ≡ marks edition (take i p) f m
+  pub registers_left : g ≡ plain edition (take i p) f
+  pub marks_laid : n ≡ marks edition (take i p) f m
 
 -- line i of p, up to its store. The code reads the pointer d off its word, has its outcome o, and s has its mark
 pub record Given (edition : Edition) (p : List ℕ) (i : ℕ) (f : List Register) (m : List ℕ) (g : List Register) (n : List ℕ) (d : Pointer) (o : Outcome) (s : List ℕ) : Type 0 where
   pub here : i < length p
   pub so_far : Done edition p i f m g n
   pub at : d ≡ rd_of (get_or p i 0)
-  pub its-value : o.value ≡ (given (get_or p i 0) g).value
-  pub its-mark : s ≡ set n i (given (get_or p i 0) g).mark
+  pub its_value : o.value ≡ (given (get_or p i 0) g).value
+  pub its_mark : s ≡ set n i (given (get_or p i 0) g).mark
 
 module _ {edition : Edition} {p : List ℕ} {i : ℕ} {f : List Register} {m : List ℕ} {g : List Register} {n : List ℕ} {d : Pointer} {o : Outcome} {s : List ℕ}
     (line : Given edition p i f m g n d o s) where
-  pub in-file : d.0 < 32
-  in-file = omega (arith, ap (λ (q : Pointer). q.0) line.at)
+  pub in_file : d.0 < 32
+  in_file = omega (arith, ap (λ (q : Pointer). q.0) line.at)
 
   after : {h : List Register} → h ≡ step edition (get_or p i 0) g → Done edition p (i + 1) f m h s
   after e = record {
-    registers-left = e
-        ∙ ap (step edition (get_or p i 0)) line.so_far.registers-left
+    registers_left = e
+        ∙ ap (step edition (get_or p i 0)) line.so_far.registers_left
         ∙ sym (one_more edition p i f line.here)
         ∙ ap (λ (k : ℕ). plain edition (take k p) f) (sym (add-one i));
-    marks-laid = line.its-mark
-        ∙ (λ j. set (line.so_far.marks-laid j) i (given (get_or p i 0) (line.so_far.registers-left j)).mark)
-        ∙ sym (one-more-mark (λ r. r) (λ r. r) zero_register edition p i f m line.here)
+    marks_laid = line.its_mark
+        ∙ (λ j. set (line.so_far.marks_laid j) i (given (get_or p i 0) (line.so_far.registers_left j)).mark)
+        ∙ sym (one_more_mark (λ r. r) (λ r. r) zero_register edition p i f m line.here)
         ∙ ap (λ (k : ℕ). marks edition (take k p) f m) (sym (add-one i));
   }
 
   stored : is_nop (get_or p i 0) ≡ false → is_wired edition d ≡ false → Done edition p (i + 1) f m (set g d.0 o.value) s
   stored writes unwired =
       after (ap (λ (q : Pointer). set g q.0 o.value) line.at
-      ∙ stores edition (get_or p i 0) g writes (sym (ap (is_wired edition) line.at) ∙ unwired) line.its-value)
+      ∙ stores edition (get_or p i 0) g writes (sym (ap (is_wired edition) line.at) ∙ unwired) line.its_value)
 
-  pub stored-elsewhere : is_nop (get_or p i 0) ≡ false → (d.0 ≡ 0 → ⊥) → Done edition p (i + 1) f m (set g d.0 o.value) s
-  stored-elsewhere writes h = stored writes (other_taken edition d h)
+  pub stored_elsewhere : is_nop (get_or p i 0) ≡ false → (d.0 ≡ 0 → ⊥) → Done edition p (i + 1) f m (set g d.0 o.value) s
+  stored_elsewhere writes h = stored writes (other_taken edition d h)
 
   dropped : is_wired edition d ≡ true → Done edition p (i + 1) f m g s
   dropped wired = after (skips edition (get_or p i 0) g (the_second (is_nop (get_or p i 0)) (sym (ap (is_wired edition) line.at) ∙ wired)))
@@ -121,11 +121,11 @@ module _ {edition : Edition} {p : List ℕ} {i : ℕ} {f : List Register} {m : L
 -- and where its register is 0, by whether that is free
 module _ (free : Bool) {p : List ℕ} {i : ℕ} {f : List Register} {m : List ℕ} {g : List Register} {n : List ℕ} {d : Pointer} {o : Outcome} {s : List ℕ}
     (line : Given (edition_by free) p i f m g n d o s) where
-  pub stored-in-0 : is_nop (get_or p i 0) ≡ false → d.0 ≡ 0 → free ≡ true → Done (edition_by free) p (i + 1) f m (set g 0 o.value) s
-  stored-in-0 writes h e = subst (λ (j : ℕ). Done (edition_by free) p (i + 1) f m (set g j o.value) s) h (stored line writes (zero-taken free d e))
+  pub stored_in_0 : is_nop (get_or p i 0) ≡ false → d.0 ≡ 0 → free ≡ true → Done (edition_by free) p (i + 1) f m (set g 0 o.value) s
+  stored_in_0 writes h e = subst (λ (j : ℕ). Done (edition_by free) p (i + 1) f m (set g j o.value) s) h (stored line writes (zero_taken free d e))
 
-  pub not-stored : d.0 ≡ 0 → free ≡ false → Done (edition_by free) p (i + 1) f m g s
-  not-stored h e = dropped line (zero-not-taken free d h e)
+  pub not_stored : d.0 ≡ 0 → free ≡ false → Done (edition_by free) p (i + 1) f m g s
+  not_stored h e = dropped line (zero_not_taken free d h e)
 
 -- each kind of word: l, k and t are what the code's tests answer, and a, b and c the other pointers
 module _ (edition : Edition) (p : List ℕ) (i : ℕ) (f : List Register) (m : List ℕ) {g : List Register} {n : List ℕ} (here : i < length p) (so_far : Done edition p i f m g n) where
@@ -138,13 +138,13 @@ module _ (edition : Edition) (p : List ℕ) (i : ℕ) (f : List Register) (m : L
     unfolding first_of
     li_given li {o} e laid =
         let own : first_of w ≡ rd_of w = rw (← is-li, li) in
-        let gives : o ≡ given w g = li-result w is-li li _ _ _ (e ∙ rw (at, own)) in (
+        let gives : o ≡ given w g = li_result w is-li li _ _ _ (e ∙ rw (at, own)) in (
           record {
             here = here;
             so_far = so_far;
             at = at;
-            its-value = ap (λ (x : Outcome). x.value) gives;
-            its-mark = laid ∙ ap (λ (x : Outcome). set n i x.mark) (sym e ∙ gives);
+            its_value = ap (λ (x : Outcome). x.value) gives;
+            its_mark = laid ∙ ap (λ (x : Outcome). set n i x.mark) (sym e ∙ gives);
           },
           rw (← is-li, li),
         )
@@ -160,13 +160,13 @@ module _ (edition : Edition) (p : List ℕ) (i : ℕ) (f : List Register) (m : L
           → o ≡ multiplied (is_long w) (is_subtract w) (is_high w) (get_or g a.0 zero_register) (get_or g b.0 zero_register) (get_or g c.0 zero_register)
           → {s : List ℕ} → s ≡ set n i o.mark → Given edition p i f m g n d o s × (is_nop w ≡ false)
       multiply_given multiplies third {o} e laid =
-          let gives : o ≡ given w g = multiply-result w is-li other is-multiply multiplies _ _ _ e ∙ named _ ∙ rw third in (
+          let gives : o ≡ given w g = multiply_result w is-li other is-multiply multiplies _ _ _ e ∙ named _ ∙ rw third in (
             record {
               here = here;
               so_far = so_far;
               at = at;
-              its-value = ap (λ (x : Outcome). x.value) gives;
-              its-mark = laid ∙ ap (λ (x : Outcome). set n i x.mark) gives;
+              its_value = ap (λ (x : Outcome). x.value) gives;
+              its_mark = laid ∙ ap (λ (x : Outcome). set n i x.mark) gives;
             },
             rw (← is-li, other, ← is-multiply, multiplies),
           )
@@ -179,15 +179,15 @@ module _ (edition : Edition) (p : List ℕ) (i : ℕ) (f : List Register) (m : L
         here = here;
         so_far = so_far;
         at = at;
-        its-value = ap (λ (x : Outcome). x.value) e ∙ value asked ∙ ap (λ (x : Outcome). x.value) gives;
-        its-mark = laid ∙ asked_mark n i o.mark (given w g).mark asked asks (ap (λ (x : Outcome). x.mark) e ∙ mark asked);
+        its_value = ap (λ (x : Outcome). x.value) e ∙ value asked ∙ ap (λ (x : Outcome). x.value) gives;
+        its_mark = laid ∙ asked_mark n i o.mark (given w g).mark asked asks (ap (λ (x : Outcome). x.mark) e ∙ mark asked);
       }
         where
           row : Outcome
           row = result_of (get_or short_rows (code_of w) nop) w (get_or g a.0 zero_register) (get_or g b.0 zero_register) zero_register
 
           gives : row ≡ given w g
-          gives = short-result w is-li other is-multiply short _ _ _ refl ∙ named _
+          gives = short_result w is-li other is-multiply short _ _ _ refl ∙ named _
 
           value : (t : Bool) → (cond t row (unmarked row.value)).value ≡ row.value
           value true = refl
@@ -200,14 +200,14 @@ module _ (edition : Edition) (p : List ℕ) (i : ℕ) (f : List Register) (m : L
 -- before the first line nothing is done, and after the last one all of it
 pub no_line : (edition : Edition) (p : List ℕ) (f : List Register) (m : List ℕ) → Done edition p 0 f m f m
 unfolding plain_on marks_on
-no_line edition p f m = record { registers-left = refl; marks-laid = refl }
+no_line edition p f m = record { registers_left = refl; marks_laid = refl }
 
 pub all_lines : (edition : Edition) (p : List ℕ) (i : ℕ) (f : List Register) (m : List ℕ) {g : List Register} {n : List ℕ} → length p ≤ i → Done edition p i f m g n
     → (g, n) ≡ executed_registers edition p f m
 all_lines edition p i f m h done =
     let all = take_all i p h in
-    λ j. ((done.registers-left ∙ ap (λ (q : List ℕ). plain edition q f) all) j, (done.marks-laid ∙ ap (λ (q : List ℕ). marks edition q f m) all) j)
+    λ j. ((done.registers_left ∙ ap (λ (q : List ℕ). plain edition q f) all) j, (done.marks_laid ∙ ap (λ (q : List ℕ). marks edition q f m) all) j)
 
 -- as many marks as were lent
 pub as_long : {edition : Edition} {p : List ℕ} {i : ℕ} {f : List Register} {m : List ℕ} {g : List Register} {n : List ℕ} → Done edition p i f m g n → length n ≡ length m
-as_long {edition = edition} {p = p} {i = i} {f = f} {m = m} done = ap length done.marks-laid ∙ as_many (λ r. r) (λ r. r) zero_register edition (take i p) f m
+as_long {edition = edition} {p = p} {i = i} {f = f} {m = m} done = ap length done.marks_laid ∙ as_many (λ r. r) (λ r. r) zero_register edition (take i p) f m

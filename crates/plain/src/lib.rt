@@ -1,5 +1,7 @@
 // The plain machine: one instruction after another on a file of 32 rows of four words, by value.
 
+#![tactic(auto)]
+
 ghost use Rattle.std.specs.Prelude.{◌≡◌};
 ghost use Rattle.plain_rules.specs.Machine.{executed_rows};
 ghost use Rattle.plain_rules.specs.Answer.{answer_of, execute_of, execute_all_of};

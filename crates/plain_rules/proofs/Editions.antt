@@ -43,18 +43,18 @@ never_to_0 w v d f =
 
 module _ {A : Type 0} (read : A → Register) (make : Register → A) (none : A) where
   -- so a program leaves register 0 as it was
-  pub register-0-left : (p : List ℕ) (d : A) (f : List A) → get_or (plain_on read make none Two p f) 0 d ≡ get_or f 0 d
+  pub register_0_left : (p : List ℕ) (d : A) (f : List A) → get_or (plain_on read make none Two p f) 0 d ≡ get_or f 0 d
   unfolding plain_on step_on
-  register-0-left [] d f = refl
-  register-0-left (w ∷ p) d f = register-0-left p d (step_on read make none Two w f) ∙ never_to_0 w _ d f
+  register_0_left [] d f = refl
+  register_0_left (w ∷ p) d f = register_0_left p d (step_on read make none Two w f) ∙ never_to_0 w _ d f
 
 -- "every read of it gives zero": before every line k, and once all are executed, row 0 is that of the zero register
 pub register_0_zero : (p : List ℕ) (k : ℕ) (f : List (List ℕ)) → 0 < length f → get_or (plain_rows Two (take k p) (cleared_rows Two f)) 0 [] ≡ row_of zero_register
-register_0_zero p k f h = register-0-left of_row row_of [] (take k p) [] (cleared_rows Two f) ∙ register_0_cleared (row_of zero_register) [] f h
+register_0_zero p k f h = register_0_left of_row row_of [] (take k p) [] (cleared_rows Two f) ∙ register_0_cleared (row_of zero_register) [] f h
 
 -- and so it is answered
 pub register_0_answered : (p : List ℕ) (f : List (List ℕ)) → 0 < length f → length p ≤ 64 → length p ≤ first_bad p
     → get_or (execute_all_of Two p f).executed.file 0 [] ≡ row_of zero_register
 register_0_answered p f h few good =
     ap (λ (e : ExecutedProgram). get_or e.executed.file 0 []) (executed Two p f few good)
-    ∙ register-0-left of_row row_of [] p [] (cleared_rows Two f) ∙ register_0_cleared (row_of zero_register) [] f h
+    ∙ register_0_left of_row row_of [] p [] (cleared_rows Two f) ∙ register_0_cleared (row_of zero_register) [] f h

@@ -21,23 +21,23 @@ use Rattle.plain_rules.specs.Machine.{stored, cleared_for, outcome_on, step_on, 
 
 module _ {A : Type 0} (read : A → Register) (make : Register → A) (none : A) (edition : Edition) where
   -- a program and then another is the two in one
-  pub one-after-another : (p q : List ℕ) (f : List A) → plain_on read make none edition (p ++ q) f ≡ plain_on read make none edition q (plain_on read make none edition p f)
+  pub one_after_another : (p q : List ℕ) (f : List A) → plain_on read make none edition (p ++ q) f ≡ plain_on read make none edition q (plain_on read make none edition p f)
   unfolding plain_on
-  one-after-another [] q f = refl
-  one-after-another (w ∷ p) q f = one-after-another p q (step_on read make none edition w f)
+  one_after_another [] q f = refl
+  one_after_another (w ∷ p) q f = one_after_another p q (step_on read make none edition w f)
 
   -- a program of one word is that word
-  pub lone-word : (w : ℕ) (f : List A) → plain_on read make none edition (w ∷ []) f ≡ step_on read make none edition w f
+  pub lone_word : (w : ℕ) (f : List A) → plain_on read make none edition (w ∷ []) f ≡ step_on read make none edition w f
   unfolding plain_on
-  lone-word w f = refl
+  lone_word w f = refl
 
 -- a program's first words and one word more
 pub one_more : (edition : Edition) (l : List ℕ) (k : ℕ) (f : List Register) → k < length l
     → plain edition (take (suc k) l) f ≡ step edition (get_or l k 0) (plain edition (take k l) f)
 one_more edition l k f h =
     ap (λ (q : List ℕ). plain edition q f) (take-suc l k 0 h)
-    ∙ one-after-another (λ r. r) (λ r. r) zero_register edition (take k l) (get_or l k 0 ∷ []) f
-    ∙ lone-word (λ r. r) (λ r. r) zero_register edition (get_or l k 0) (plain edition (take k l) f)
+    ∙ one_after_another (λ r. r) (λ r. r) zero_register edition (take k l) (get_or l k 0 ∷ []) f
+    ∙ lone_word (λ r. r) (λ r. r) zero_register edition (get_or l k 0) (plain edition (take k l) f)
 
 -- ---- the same machine on another kind of entry
 
@@ -48,55 +48,55 @@ module _ {A B : Type 0} (read : A → Register) (make : Register → A) (none : 
   read_at_lem (x ∷ f) zero = reads x
   read_at_lem (x ∷ f) (suc i) = read_at_lem f i
 
-  set-map : (f : List A) (i : ℕ) (y : A) → map h (set f i y) ≡ set (map h f) i (h y)
-  set-map [] i y = refl
-  set-map (x ∷ f) zero y = refl
-  set-map (x ∷ f) (suc i) y = ap (λ (l : List B). h x ∷ l) (set-map f i y)
+  set_map : (f : List A) (i : ℕ) (y : A) → map h (set f i y) ≡ set (map h f) i (h y)
+  set_map [] i y = refl
+  set_map (x ∷ f) zero y = refl
+  set_map (x ∷ f) (suc i) y = ap (λ (l : List B). h x ∷ l) (set_map f i y)
 
-  stored-map : (t : Target) (y : A) (f : List A) → map h (stored t y f) ≡ stored t (h y) (map h f)
-  stored-map None y f = refl
-  stored-map (To p) y f = set-map f p.0 y
+  stored_map : (t : Target) (y : A) (f : List A) → map h (stored t y f) ≡ stored t (h y) (map h f)
+  stored_map None y f = refl
+  stored_map (To p) y f = set_map f p.0 y
 
-  pub cleared-converted : (z : A) (f : List A) → map h (cleared_for edition z f) ≡ cleared_for edition (h z) (map h f)
-  cleared-converted z f = go (is_wired edition (record { 0 = 0 }))
+  pub cleared_converted : (z : A) (f : List A) → map h (cleared_for edition z f) ≡ cleared_for edition (h z) (map h f)
+  cleared_converted z f = go (is_wired edition (record { 0 = 0 }))
     where
       go : (t : Bool) → map h (cond t (set f 0 z) f) ≡ cond t (set (map h f) 0 (h z)) (map h f)
-      go true = set-map f 0 z
+      go true = set_map f 0 z
       go false = refl
 
-  outcome-converted : (w : ℕ) (f : List A) → outcome_on read' make' none' w (map h f) ≡ outcome_on read make none w f
-  outcome-converted w f = λ j. outcome_of w (read_at_lem f (first_of w).0 j) (read_at_lem f (rs2_of w).0 j) (read_at_lem f (rs3_of w).0 j)
+  outcome_converted : (w : ℕ) (f : List A) → outcome_on read' make' none' w (map h f) ≡ outcome_on read make none w f
+  outcome_converted w f = λ j. outcome_of w (read_at_lem f (first_of w).0 j) (read_at_lem f (rs2_of w).0 j) (read_at_lem f (rs3_of w).0 j)
 
-  step-converted : (w : ℕ) (f : List A) → map h (step_on read make none edition w f) ≡ step_on read' make' none' edition w (map h f)
+  step_converted : (w : ℕ) (f : List A) → map h (step_on read make none edition w f) ≡ step_on read' make' none' edition w (map h f)
   unfolding step_on
-  step-converted w f =
-      stored-map (target_of edition w) (make (outcome_on read make none w f).value) f
+  step_converted w f =
+      stored_map (target_of edition w) (make (outcome_on read make none w f).value) f
       ∙ ap (λ (y : B). stored (target_of edition w) y (map h f))
-      (makes _ ∙ sym (λ j. make' (outcome-converted w f j).value))
+      (makes _ ∙ sym (λ j. make' (outcome_converted w f j).value))
 
-  pub plain-converted : (p : List ℕ) (f : List A) → map h (plain_on read make none edition p f) ≡ plain_on read' make' none' edition p (map h f)
+  pub plain_converted : (p : List ℕ) (f : List A) → map h (plain_on read make none edition p f) ≡ plain_on read' make' none' edition p (map h f)
   unfolding plain_on
-  plain-converted [] f = refl
-  plain-converted (w ∷ p) f = plain-converted p (step_on read make none edition w f) ∙ ap (plain_on read' make' none' edition p) (step-converted w f)
+  plain_converted [] f = refl
+  plain_converted (w ∷ p) f = plain_converted p (step_on read make none edition w f) ∙ ap (plain_on read' make' none' edition p) (step_converted w f)
 
-  pub marks-converted : (p : List ℕ) (f : List A) (l : List ℕ) → marks_on read' make' none' edition p (map h f) l ≡ marks_on read make none edition p f l
+  pub marks_converted : (p : List ℕ) (f : List A) (l : List ℕ) → marks_on read' make' none' edition p (map h f) l ≡ marks_on read make none edition p f l
   unfolding marks_on
-  marks-converted [] f l = refl
-  marks-converted (w ∷ p) f [] = refl
-  marks-converted (w ∷ p) f (x ∷ l) =
-      ap₂ (λ (m : ℕ) (q : List ℕ). m ∷ q) (ap (λ (o : Outcome). o.mark) (outcome-converted w f))
-      (ap (λ (g : List B). marks_on read' make' none' edition p g l) (sym (step-converted w f)) ∙ marks-converted p (step_on read make none edition w f) l)
+  marks_converted [] f l = refl
+  marks_converted (w ∷ p) f [] = refl
+  marks_converted (w ∷ p) f (x ∷ l) =
+      ap₂ (λ (m : ℕ) (q : List ℕ). m ∷ q) (ap (λ (o : Outcome). o.mark) (outcome_converted w f))
+      (ap (λ (g : List B). marks_on read' make' none' edition p g l) (sym (step_converted w f)) ∙ marks_converted p (step_on read make none edition w f) l)
 
 -- rows as registers, and registers as rows
 pub rows_as_registers : (edition : Edition) (p : List ℕ) (f : List (List ℕ)) → map of_row (plain_rows edition p f) ≡ plain edition p (map of_row f)
-rows_as_registers = plain-converted of_row row_of [] (λ r. r) (λ r. r) zero_register of_row (λ x. refl) (λ v. refl) refl
+rows_as_registers = plain_converted of_row row_of [] (λ r. r) (λ r. r) zero_register of_row (λ x. refl) (λ v. refl) refl
 
 pub registers_as_rows : (edition : Edition) (p : List ℕ) (f : List Register) → map row_of (plain edition p f) ≡ plain_rows edition p (map row_of f)
-registers_as_rows = plain-converted (λ r. r) (λ r. r) zero_register of_row row_of [] row_of (λ x. refl) (λ v. refl) refl
+registers_as_rows = plain_converted (λ r. r) (λ r. r) zero_register of_row row_of [] row_of (λ x. refl) (λ v. refl) refl
 
 -- the marks of a program on rows are those on their registers, and the other way round
 pub marks_of_rows : (edition : Edition) (p : List ℕ) (f : List (List ℕ)) (l : List ℕ) → marks_rows edition p f l ≡ marks edition p (map of_row f) l
-marks_of_rows edition p f l = sym (marks-converted of_row row_of [] (λ r. r) (λ r. r) zero_register of_row (λ x. refl) (λ v. refl) refl edition p f l)
+marks_of_rows edition p f l = sym (marks_converted of_row row_of [] (λ r. r) (λ r. r) zero_register of_row (λ x. refl) (λ v. refl) refl edition p f l)
 
 pub marks_of_registers : (edition : Edition) (p : List ℕ) (f : List Register) (l : List ℕ) → marks_rows edition p (map row_of f) l ≡ marks edition p f l
-marks_of_registers = marks-converted (λ r. r) (λ r. r) zero_register of_row row_of [] row_of (λ x. refl) (λ v. refl) refl
+marks_of_registers = marks_converted (λ r. r) (λ r. r) zero_register of_row row_of [] row_of (λ x. refl) (λ v. refl) refl

@@ -45,7 +45,7 @@ pub word_lane : (i : ℕ) (r : Register) → Held r → lane 32 i r ≡ get_or (
 unfolding lane
 word_lane i r h =
     ap (λ (n : ℕ). n / 2 ^ (32 * i) % 2 ^ 32) (number_in_words r)
-    ∙ digit_at 32 i (row_of r) (h.w0-fits, (h.w1-fits, (h.w2-fits, (h.w3-fits, tt))))
+    ∙ digit_at 32 i (row_of r) (h.w0_fits, (h.w1_fits, (h.w2_fits, (h.w3_fits, tt))))
 
 -- a row whose four words are g 0 to g 3
 pub word_by_word : (g : ℕ → ℕ) (r : Register) → r.w0 ≡ g 0 → r.w1 ≡ g 1 → r.w2 ≡ g 2 → r.w3 ≡ g 3 → (n : ℕ) → n < 4 → get_or (row_of r) n 0 ≡ g n

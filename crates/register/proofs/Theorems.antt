@@ -45,7 +45,7 @@ from_row_and_back l n = sym (next_four l 0 (omega arith) (all_dropped l 4 n))
 
 pub bytes_and_back : (r : Register) → Held r → of_bytes (bytes_of r) ≡ r
 bytes_and_back r h =
-    same (word_of_its_bytes _ h.w0-fits) (word_of_its_bytes _ h.w1-fits) (word_of_its_bytes _ h.w2-fits) (word_of_its_bytes _ h.w3-fits)
+    same (word_of_its_bytes _ h.w0_fits) (word_of_its_bytes _ h.w1_fits) (word_of_its_bytes _ h.w2_fits) (word_of_its_bytes _ h.w3_fits)
 
 -- the bytes of the register in the first sixteen bytes, and then the rest, are the list
 pub bytes_then_rest : (l : List ℕ) → ((i : ℕ) → get_or l i 0 < 2 ^ 8) → {rest : List ℕ} → 16 ≤ length l → drop 16 l ≡ rest → bytes_of (of_bytes l) ++ rest ≡ l
@@ -67,10 +67,10 @@ byte_lane i r h =
     let t1 = bytes_of_word r.w1 t2 in
     let digits = digits_of_word r.w0 t1 (digits_of_word r.w1 t2 (digits_of_word r.w2 t3 (digits_of_word r.w3 [] tt))) in
     let in_words : value 8 (bytes_of r) ≡ value 32 (row_of r)
-    = value_of_word r.w0 t1 h.w0-fits
-    (value_of_word r.w1 t2 h.w1-fits
-    (value_of_word r.w2 t3 h.w2-fits
-    (value_of_word r.w3 [] h.w3-fits refl))) in
+    = value_of_word r.w0 t1 h.w0_fits
+    (value_of_word r.w1 t2 h.w1_fits
+    (value_of_word r.w2 t3 h.w2_fits
+    (value_of_word r.w3 [] h.w3_fits refl))) in
     sym (digit_at 8 i (bytes_of r) digits) ∙ ap (λ (n : ℕ). n / 2 ^ (8 * i) % 2 ^ 8) (in_words ∙ sym (number_in_words r))
 
 -- ---- one halfword set, the other seven kept
@@ -83,27 +83,27 @@ equal a b {P} same other = go (eqb a b) refl
     go false e = other (eqb-false a b e)
 
 module _ (i v k w : ℕ) (fits : v < 2 ^ 16) where
-  low-set : low 16 (with_half i v k w) ≡ cond (eqb k i) v (low 16 w)
+  low_set : low 16 (with_half i v k w) ≡ cond (eqb k i) v (low 16 w)
   unfolding with_half
-  low-set =
+  low_set =
       equal i k
       (λ e. rw (eq-eqb i k e, eq-eqb k i (sym e)) (pow.low (high 16 w) 16 fits))
       (λ n. rw (ne_eqb i k n, ne_eqb k i (λ e. n (sym e))) (equal i (k + 1)
       (λ e. rw (eq-eqb i (k + 1) e) (pow.low v 16 (omega arith)))
       (λ m. rw (ne_eqb i (k + 1) m))))
 
-  high-set : high 16 (with_half i v k w) ≡ cond (eqb (k + 1) i) v (high 16 w)
+  high_set : high 16 (with_half i v k w) ≡ cond (eqb (k + 1) i) v (high 16 w)
   unfolding with_half
-  high-set =
+  high_set =
       equal i k
       (λ e. rw (eq-eqb i k e, ne_eqb (k + 1) i (λ f. omega arith)) (pow.high (high 16 w) 16 fits))
       (λ n. rw (ne_eqb i k n) (equal i (k + 1)
       (λ e. rw (eq-eqb i (k + 1) e, eq-eqb (k + 1) i (sym e)) (pow.high v 16 (omega arith)))
       (λ m. rw (ne_eqb i (k + 1) m, ne_eqb (k + 1) i (λ e. m (sym e))))))
 
-  set-fits : w < 2 ^ 32 → with_half i v k w < 2 ^ 32
+  set_fits : w < 2 ^ 32 → with_half i v k w < 2 ^ 32
   unfolding with_half
-  set-fits l =
+  set_fits l =
       equal i k
       (λ e. rw (eq-eqb i k e) (join_lt 16 {hi = high 16 w} (omega arith) fits))
       (λ n. rw (ne_eqb i k n) (equal i (k + 1)
@@ -117,10 +117,10 @@ at_halfword i v fits r h j l =
   where
     set : Held (with_halfword i v r)
     set = record {
-      w0-fits = set-fits i v 0 r.w0 fits h.w0-fits;
-      w1-fits = set-fits i v 2 r.w1 fits h.w1-fits;
-      w2-fits = set-fits i v 4 r.w2 fits h.w2-fits;
-      w3-fits = set-fits i v 6 r.w3 fits h.w3-fits;
+      w0_fits = set_fits i v 0 r.w0 fits h.w0_fits;
+      w1_fits = set_fits i v 2 r.w1 fits h.w1_fits;
+      w2_fits = set_fits i v 4 r.w2 fits h.w2_fits;
+      w3_fits = set_fits i v 6 r.w3 fits h.w3_fits;
     }
 
     in_row : get_or (row_of (with_halfword i v r)) (j / 2) 0 ≡ with_half i v (j / 2 + j / 2) (get_or (row_of r) (j / 2) 0)
@@ -133,8 +133,8 @@ at_halfword i v fits r h j l =
     go true t =
         let b = eqb-true (j % 2) 1 t in
         let e : j / 2 + j / 2 + 1 ≡ j = omega arith in
-        ap (high 16) word ∙ high-set i v _ _ fits ∙ ap (λ (n : ℕ). cond (eqb n i) v (high 16 (lane 32 (j / 2) r))) e
+        ap (high 16) word ∙ high_set i v _ _ fits ∙ ap (λ (n : ℕ). cond (eqb n i) v (high 16 (lane 32 (j / 2) r))) e
     go false t =
         let b = eqb-false (j % 2) 1 t in
         let e : j / 2 + j / 2 ≡ j = omega arith in
-        ap (low 16) word ∙ low-set i v _ _ fits ∙ ap (λ (n : ℕ). cond (eqb n i) v (low 16 (lane 32 (j / 2) r))) e
+        ap (low 16) word ∙ low_set i v _ _ fits ∙ ap (λ (n : ℕ). cond (eqb n i) v (low 16 (lane 32 (j / 2) r))) e

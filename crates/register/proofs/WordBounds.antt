@@ -10,13 +10,13 @@ use Rattle.register.specs.contracts.Register as declared
 use Rattle.register.proofs.Register.TheLaws as laws
 
 pub record Held (r : Register) : Type 0 where
-  pub w0-fits : r.w0 < 2 ^ 32
-  pub w1-fits : r.w1 < 2 ^ 32
-  pub w2-fits : r.w2 < 2 ^ 32
-  pub w3-fits : r.w3 < 2 ^ 32
+  pub w0_fits : r.w0 < 2 ^ 32
+  pub w1_fits : r.w1 < 2 ^ 32
+  pub w2_fits : r.w2 < 2 ^ 32
+  pub w3_fits : r.w3 < 2 ^ 32
 
 -- from what owning a register tells
 pub held : {r : Register} {vs : List Val} → Is declared.the_row r vs → Held r
 held {r} {vs} is =
     let o = struct.owed declared.the_type laws.the_laws r vs is in
-    record { w0-fits = o.0.1; w1-fits = o.1.0.1; w2-fits = o.1.1.0.1; w3-fits = o.1.1.1.0.1 }
+    record { w0_fits = o.0.1; w1_fits = o.1.0.1; w2_fits = o.1.1.0.1; w3_fits = o.1.1.1.0.1 }

@@ -1,5 +1,7 @@
 // A register of 128 bits, made from and given back as bytes and rows.
 
+#![tactic(auto)]
+
 ghost use Rattle.std.specs.Prelude.{◌≡◌};
 ghost use Rattle.register.specs.Layout.{zero_register, is_zero, row_of, of_row, bytes_of, of_bytes, with_halfword};
 
@@ -10,7 +12,7 @@ use bytes::{with_word, word_at};
 use halves::put_half;
 
 // w0 has bits 31 to 0, w3 bits 127 to 96.
-#[derive(Drop)]
+#[derive(Clone, Copy)]
 pub struct Register {
     pub w0: u32,
     pub w1: u32,

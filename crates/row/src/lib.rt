@@ -1,5 +1,7 @@
 // The writer of trace rows: each field goes into the part of the lent buffer that is lent on to its writer.
 
+#![tactic(auto)]
+
 ghost use Rattle.std.specs.Prelude.{◌≤◌, ◌≡◌, length};
 ghost use Rattle.buffer.specs.Front.{at_front};
 ghost use Rattle.row_rules.specs.Text.{row_size, row_text, row_at};

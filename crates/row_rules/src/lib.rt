@@ -1,10 +1,12 @@
 // What a row of the trace says of one cycle. Its text is defined in `specs/`. There is no code.
 
+#![tactic(auto)]
+
 use alu_rules::Outcome;
 use table::Pointer;
 
 // The word in a stage.
-#[derive(Drop)]
+#[derive(Clone, Copy)]
 pub enum Stage {
     // nothing is there: seven hyphens
     Empty,
@@ -13,7 +15,7 @@ pub enum Stage {
 }
 
 // For each operand of EX's instruction, whether it is WB's value; li's first operand is its rd.
-#[derive(Drop)]
+#[derive(Clone, Copy)]
 pub struct Flags {
     pub rs1: bool,
     pub rs2: bool,
@@ -21,7 +23,7 @@ pub struct Flags {
 }
 
 // The register that WB writes, and what EX has made for it.
-#[derive(Drop)]
+#[derive(Clone, Copy)]
 pub enum Change {
     // WB writes nothing: hyphens
     Nothing,
@@ -30,7 +32,7 @@ pub enum Change {
 }
 
 // All that a row says: the cycle's number, the words in IF, ID, EX and WB, the flags, and what WB writes.
-#[derive(Drop)]
+#[derive(Clone, Copy)]
 pub struct Row {
     pub cycle: u32,
     pub fetch: Stage,

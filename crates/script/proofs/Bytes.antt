@@ -10,9 +10,9 @@ use borrow.Author.Tests.{lt-ltb, le-ltb, eq-eqb, ne_eqb}
 use lib.Dec.{eqb}
 use lib.ListN.{length, get_or, drop, length-drop, drop_of_length-le}
 use lib.Seq.{drop-cons}
-use Rattle.text_rules.specs.Forms.{same_bytes}
+use Rattle.text_rules.specs.Forms.{same_bytes_lem}
 use Rattle.text_rules.specs.Front.{front_while}
-use Rattle.text_rules.proofs.Fronts.{front_fits, front-at-end, front-ended, front-more}
+use Rattle.text_rules.proofs.Fronts.{front_fits, front_at_end, front_ended, front_more}
 use Rattle.script.specs.Words.{is_other, next_place}
 
 -- ---- the next place of a byte
@@ -23,44 +23,44 @@ module _ (byte at : ℕ) (text : List ℕ) where
   unfolding next_place
   beyond h = simp (lt-ltb (length text) at h)
 
-  from-there : at ≤ length text → next_place byte at text ≡ at + length (front_while (is_other byte) (drop at text))
+  from_there : at ≤ length text → next_place byte at text ≡ at + length (front_while (is_other byte) (drop at text))
   unfolding next_place
-  from-there h = simp (le-ltb (length text) at h)
+  from_there h = simp (le-ltb (length text) at h)
 
   -- it is no earlier than the place where one begins to look, and in the text or its end
-  pub next-within : at ≤ length text → (at ≤ next_place byte at text) × (next_place byte at text ≤ length text)
-  next-within h =
-      (omega (arith, from-there h), omega (arith, from-there h, front_fits (is_other byte) (drop at text), length-drop at text))
+  pub next_within : at ≤ length text → (at ≤ next_place byte at text) × (next_place byte at text ≤ length text)
+  next_within h =
+      (omega (arith, from_there h), omega (arith, from_there h, front_fits (is_other byte) (drop at text), length-drop at text))
 
 -- a place so far: from there on the next one is the same
 pub record NextSoFar (byte : ℕ) (text : List ℕ) (at end : ℕ) : Type 0 where
   pub within : end ≤ length text
-  pub next-left : end + length (front_while (is_other byte) (drop end text)) ≡ next_place byte at text
+  pub next_left : end + length (front_while (is_other byte) (drop end text)) ≡ next_place byte at text
 
 pub begins : (byte at : ℕ) (text : List ℕ) → at ≤ length text → NextSoFar byte text at at
-begins byte at text h = record { within = h; next-left = sym (from-there byte at text h) }
+begins byte at text h = record { within = h; next_left = sym (from_there byte at text h) }
 
 module _ {byte : ℕ} {text : List ℕ} {at end : ℕ} (so_far : NextSoFar byte text at end) where
   -- the text ends
-  pub text-ends : length text ≤ end → end ≡ next_place byte at text
-  text-ends h = omega (arith, so_far.next-left, ap length (front-at-end (is_other byte) text end h))
+  pub text_ends : length text ≤ end → end ≡ next_place byte at text
+  text_ends h = omega (arith, so_far.next_left, ap length (front_at_end (is_other byte) text end h))
 
   module _ (more : end < length text) where
     -- there it is
     pub found : is_other byte (get_or text end 0) ≡ false → end ≡ next_place byte at text
-    found e = omega (arith, so_far.next-left, ap length (front-ended (is_other byte) text end more e))
+    found e = omega (arith, so_far.next_left, ap length (front_ended (is_other byte) text end more e))
 
     -- another byte
-    pub other-more : is_other byte (get_or text end 0) ≡ true → NextSoFar byte text at (end + 1)
-    other-more e = record {
+    pub other_more : is_other byte (get_or text end 0) ≡ true → NextSoFar byte text at (end + 1)
+    other_more e = record {
       within = omega arith;
-      next-left = omega (arith, so_far.next-left, ap length (front-more (is_other byte) text end more e));
+      next_left = omega (arith, so_far.next_left, ap length (front_more (is_other byte) text end more e));
     }
 
 -- ---- the same bytes
 
 -- of different lengths
-pub other_length : (a b : List ℕ) → (length a ≡ length b → ⊥) → false ≡ same_bytes a b
+pub other_length : (a b : List ℕ) → (length a ≡ length b → ⊥) → false ≡ same_bytes_lem a b
 other_length [] [] n = absurd (n refl)
 other_length [] (y ∷ b) n = refl
 other_length (x ∷ a) [] n = refl
@@ -74,23 +74,23 @@ from l {i} h = rw add-one (drop-cons l i 0 h)
 pub record SameSoFar (a b : List ℕ) (i : ℕ) : Type 0 where
   pub as_long : length a ≡ length b
   pub within : i ≤ length a
-  pub test-left : same_bytes (drop i a) (drop i b) ≡ same_bytes a b
+  pub test_left : same_bytes_lem (drop i a) (drop i b) ≡ same_bytes_lem a b
 
 module _ {a b : List ℕ} {i : ℕ} (so_far : SameSoFar a b i) where
   -- nothing is left
-  pub all_same : length a ≤ i → true ≡ same_bytes a b
+  pub all_same : length a ≤ i → true ≡ same_bytes_lem a b
   all_same h =
       let shorter : length b ≤ i = omega (arith, so_far.as_long) in
-      rw (drop_of_length-le a h, drop_of_length-le b shorter) at so_far.test-left
+      rw (drop_of_length-le a h, drop_of_length-le b shorter) at so_far.test_left
 
   module _ (more : i < length a) where
-    apart : same_bytes a b ≡ same_bytes (get_or a i 0 ∷ drop (i + 1) a) (get_or b i 0 ∷ drop (i + 1) b)
+    apart : same_bytes_lem a b ≡ same_bytes_lem (get_or a i 0 ∷ drop (i + 1) a) (get_or b i 0 ∷ drop (i + 1) b)
     apart =
         let more-of-b : i < length b = omega (arith, so_far.as_long) in
-        sym so_far.test-left ∙ (λ j. same_bytes (from a more j) (from b more-of-b j))
+        sym so_far.test_left ∙ (λ j. same_bytes_lem (from a more j) (from b more-of-b j))
 
     -- two bytes differ
-    pub other_byte : (get_or a i 0 ≡ get_or b i 0 → ⊥) → false ≡ same_bytes a b
+    pub other_byte : (get_or a i 0 ≡ get_or b i 0 → ⊥) → false ≡ same_bytes_lem a b
     other_byte n = sym (apart ∙ simp (ne_eqb (get_or a i 0) (get_or b i 0) n))
 
     -- two bytes are the same
@@ -98,5 +98,5 @@ module _ {a b : List ℕ} {i : ℕ} (so_far : SameSoFar a b i) where
     same_byte e = record {
       as_long = so_far.as_long;
       within = omega arith;
-      test-left = sym (apart ∙ simp (eq-eqb (get_or a i 0) (get_or b i 0) e));
+      test_left = sym (apart ∙ simp (eq-eqb (get_or a i 0) (get_or b i 0) e));
     }

@@ -1,5 +1,7 @@
 // Taking a script apart: lines, words and numbers.
 
+#![tactic(auto)]
+
 mod numbers;
 mod words;
 
@@ -7,7 +9,7 @@ pub use crate::numbers::{decimal, hex};
 pub use crate::words::{line_end, same, word_end};
 
 // What digits say: whether that is a number below 2^32, and which; 0 where it is not.
-#[derive(Drop)]
+#[derive(Clone, Copy)]
 pub struct Number {
     pub known: bool,
     pub value: u32,

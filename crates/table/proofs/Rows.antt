@@ -38,12 +38,12 @@ all_alike x (suc n) (suc i) = all_alike x n i
 
 module _ (w : ℕ) {l : Bool} (is-li : l ≡ is_li w) where
   module _ (yes : l ≡ true) where
-    pub li-word : operation_of w ≡ li
+    pub li_word : operation_of w ≡ li
     unfolding operation_of
-    li-word = rw (sym is-li ∙ yes)
+    li_word = rw (sym is-li ∙ yes)
 
-    pub li-reads : Reads.Rd ≡ reads_of (operation_of w)
-    li-reads = sym (ap reads_of li-word)
+    pub li_reads : Reads.Rd ≡ reads_of (operation_of w)
+    li_reads = sym (ap reads_of li_word)
 
   module _ {m : Bool} (other : l ≡ false) (is-multiply : m ≡ is_multiply w) where
     module _ (yes : m ≡ true) where
@@ -51,13 +51,13 @@ module _ (w : ℕ) {l : Bool} (is-li : l ≡ is_li w) where
       unfolding operation_of
       multiply_word_lem = rw (sym is-li ∙ other, sym is-multiply ∙ yes)
 
-      pub multiply-reads : Reads.Rs1Rs2Rs3 ≡ reads_of (operation_of w)
-      multiply-reads = sym (ap reads_of multiply_word_lem ∙ row_reads (is_long w) (is_subtract w) (is_high w))
+      pub multiply_reads : Reads.Rs1Rs2Rs3 ≡ reads_of (operation_of w)
+      multiply_reads = sym (ap reads_of multiply_word_lem ∙ row_reads (is_long w) (is_subtract w) (is_high w))
 
     module _ (no : m ≡ false) where
-      pub short-word : operation_of w ≡ get_or short_rows (code_of w) nop
+      pub short_word : operation_of w ≡ get_or short_rows (code_of w) nop
       unfolding operation_of
-      short-word = rw (sym is-li ∙ other, sym is-multiply ∙ no)
+      short_word = rw (sym is-li ∙ other, sym is-multiply ∙ no)
 
-      pub short-reads : {c : ℕ} {r : Reads} → c ≡ code_of w → r ≡ reads_of (get_or short_rows c nop) → r ≡ reads_of (operation_of w)
-      short-reads e f = f ∙ ap (λ (k : ℕ). reads_of (get_or short_rows k nop)) e ∙ sym (ap reads_of short-word)
+      pub short_reads : {c : ℕ} {r : Reads} → c ≡ code_of w → r ≡ reads_of (get_or short_rows c nop) → r ≡ reads_of (operation_of w)
+      short_reads e f = f ∙ ap (λ (k : ℕ). reads_of (get_or short_rows k nop)) e ∙ sym (ap reads_of short_word)

@@ -1,20 +1,22 @@
 // The published instruction table: the fields of a word, what it reads and what it writes.
 
+#![tactic(auto)]
+
 pub mod fields;
 pub mod operands;
 pub mod refusal;
 pub mod writes;
 
 // A register's number, 0 to 31.
-#[derive(Drop)]
+#[derive(Clone, Copy)]
 pub struct Pointer(pub u8);
 
 // A number of program lines, 0 to 64.
-#[derive(Drop)]
+#[derive(Clone, Copy)]
 pub struct Count(pub u8);
 
 // Which fields of a word name registers that it reads: the entries of the table's "reads" column, the multiply family's and li's.
-#[derive(Drop)]
+#[derive(Clone, Copy)]
 pub enum Reads {
     // none: NOP
     Nothing,
@@ -29,7 +31,7 @@ pub enum Reads {
 }
 
 // The register that a word writes, or none.
-#[derive(Drop)]
+#[derive(Clone, Copy)]
 pub enum Target {
     // a NOP writes nothing, and a write to a register that is wired to zero is dropped
     None,
@@ -38,7 +40,7 @@ pub enum Target {
 }
 
 // The edition of a card: boards of both run side by side.
-#[derive(Drop)]
+#[derive(Clone, Copy)]
 pub enum Edition {
     // all registers can be written
     One,

@@ -14,14 +14,14 @@ use lib.ListN.{length, get_or, drop, drop_of_length-le, length-drop}
 use lib.Seq.{drop-cons, drop-drop}
 use Rattle.text_rules.specs.declared.Operands.{Operands}
 use Rattle.text_rules.specs.Forms.{Operand, form_at}
-use Rattle.text_rules.specs.Number.{Notation, base_of, is_digit, digits_in, number_of, says_below}
+use Rattle.text_rules.specs.Number.{Notation, base_of, is_digit_lem, digits_in, number_of, says_below}
 use Rattle.text_rules.specs.Line.{SPACE, begins_with, not_stated, operands_in}
 use Rattle.text_rules.proofs.Rows.{most, sound}
 use Rattle.text_rules.proofs.Fronts.{front_fits}
 use Rattle.text_rules.proofs.Fits.{begun}
 use Rattle.text_rules.proofs.Limits.{says_below_lem, adds_at_most}
 use Rattle.text_table.specs.Table.{form_table}
-use Rattle.text_table.proofs.Cells.{table_size, base-cell, word_cell}
+use Rattle.text_table.proofs.Cells.{table_size, base_cell, word_cell}
 use Rattle.text_table.proofs.Operands.{ops_of, op_at, CellOf}
 use Rattle.text_table.proofs.Operands as cells
 use Rattle.text_reader.specs.declared.number.Number.{Number}
@@ -47,21 +47,21 @@ module _ (notation : Notation) (o : Operand) (os : List Operand) (word size : �
   abbrev base : ℕ
   base = base_of notation
 
-  not-spaced : begins_with SPACE l ≡ false → operands_in notation (o ∷ os) word size l ≡ not_stated
+  not_spaced : begins_with SPACE l ≡ false → operands_in notation (o ∷ os) word size l ≡ not_stated
   unfolding operands_in
-  not-spaced e = simp e
+  not_spaced e = simp e
 
   module _ (spaced : begins_with SPACE l ≡ true) where
-    not-said : says_below notation o.limit (digits_in base (drop 1 l)) ≡ false → operands_in notation (o ∷ os) word size l ≡ not_stated
+    not_said : says_below notation o.limit (digits_in base (drop 1 l)) ≡ false → operands_in notation (o ∷ os) word size l ≡ not_stated
     unfolding operands_in
-    not-said e = simp (spaced, e)
+    not_said e = simp (spaced, e)
 
-    one-said : says_below notation o.limit (digits_in base (drop 1 l)) ≡ true
+    one_said : says_below notation o.limit (digits_in base (drop 1 l)) ≡ true
         → operands_in notation (o ∷ os) word size l
         ≡ operands_in notation os (word + number_of base (digits_in base (drop 1 l)) * 2 ^ o.place) (size + 1 + length (digits_in base (drop 1 l)))
         (drop (1 + length (digits_in base (drop 1 l))) l)
     unfolding operands_in
-    one-said e = simp (spaced, e)
+    one_said e = simp (spaced, e)
 
 -- ---- the operands of a row from a cell on
 
@@ -81,11 +81,11 @@ whole_of text start row = operands_in (form_at row).notation (form_at row).opera
 
 -- what stands before the cell is passed: the place, the word and the operands so far answer as all operands do
 pub record OperandsSoFar (text : List ℕ) (start : ℕ) (table : List ℕ) (row at word cell : ℕ) : Type 0 where
-  pub the-table : table ≡ form_table
+  pub the_table : table ≡ form_table
   pub long : length table ≡ 286
-  pub a-row : row < 26
+  pub a_row : row < 26
   pub o : ℕ
-  pub cell-of : cell ≡ 11 * row + 3 + 2 * o
+  pub cell_of : cell ≡ 11 * row + 3 + 2 * o
   pub few : o ≤ 4
   pub within : at ≤ length text
   pub room : word + most (drop o (form_at row).operands) < 2 ^ 25
@@ -95,11 +95,11 @@ pub record OperandsSoFar (text : List ℕ) (start : ℕ) (table : List ℕ) (row
 pub none_so_far : {table : List ℕ} → table ≡ form_table → (row : ℕ) → row < 26 → (text : List ℕ) (start : ℕ) → start ≤ length text
     → OperandsSoFar text start table row start (get_or table (11 * row + 2) 0) (11 * row + 3)
 none_so_far e row h text start fits = rw (e, word_cell row h) (record {
-  the-table = refl;
+  the_table = refl;
   long = table_size;
-  a-row = h;
+  a_row = h;
   o = 0;
-  cell-of = omega arith;
+  cell_of = omega arith;
   few = omega arith;
   within = fits;
   room = (sound row h).room;
@@ -108,27 +108,27 @@ none_so_far e row h text start fits = rw (e, word_cell row h) (record {
 
 module _ {text : List ℕ} {start : ℕ} {table : List ℕ} {row at word cell : ℕ} (so_far : OperandsSoFar text start table row at word cell) where
   -- the base that the row has for its digits
-  base-is : get_or table (11 * row + 1) 0 ≡ row_base row
-  base-is = ap (λ (t : List ℕ). get_or t (11 * row + 1) 0) so_far.the-table ∙ base-cell row so_far.a-row
+  base_is : get_or table (11 * row + 1) 0 ≡ row_base row
+  base_is = ap (λ (t : List ℕ). get_or t (11 * row + 1) 0) so_far.the_table ∙ base_cell row so_far.a_row
 
   -- it is that of its notation
-  notation-is : notation_of (get_or table (11 * row + 1) 0) ≡ row_notation row
-  notation-is = ap notation_of base-is ∙ notation_of_lem (row_notation row)
+  notation_is : notation_of (get_or table (11 * row + 1) 0) ≡ row_notation row
+  notation_is = ap notation_of base_is ∙ notation_of_lem (row_notation row)
 
-  pub base-fits : get_or table (11 * row + 1) 0 ≡ base_of (notation_of (get_or table (11 * row + 1) 0))
-  base-fits = base-is ∙ ap base_of (sym notation-is)
+  pub base_fits : get_or table (11 * row + 1) 0 ≡ base_of (notation_of (get_or table (11 * row + 1) 0))
+  base_fits = base_is ∙ ap base_of (sym notation_is)
 
   -- behind the last of them
   past : length (ops_of row) ≤ so_far.o → operands_in (row_notation row) [] word at (drop at text) ≡ whole_of text start row
   past k = sym (ap (λ (os : List Operand). operands_in (row_notation row) os word at (drop at text)) (drop_of_length-le (ops_of row) k)) ∙ so_far.same
 
   -- the cells have ended
-  pub row-ended : 11 * row + 11 ≤ cell → operands_in (row_notation row) [] word at (drop at text) ≡ whole_of text start row
-  row-ended k = past (omega (arith, so_far.cell-of, (sound row so_far.a-row).few))
+  pub row_ended : 11 * row + 11 ≤ cell → operands_in (row_notation row) [] word at (drop at text) ≡ whole_of text start row
+  row_ended k = past (omega (arith, so_far.cell_of, (sound row so_far.a_row).few))
 
   module _ (k : cell < 11 * row + 11) where
     there : CellOf table row so_far.o cell
-    there = record { the-table = so_far.the-table; a-row = so_far.a-row; inside = omega (arith, so_far.cell-of); cell-of = so_far.cell-of }
+    there = record { the_table = so_far.the_table; a_row = so_far.a_row; inside = omega (arith, so_far.cell_of); cell_of = so_far.cell_of }
 
     -- a cell that is 0
     pub zero_ended : not (eqb (get_or table cell 0) 0) ≡ false → operands_in (row_notation row) [] word at (drop at text) ≡ whole_of text start row
@@ -137,8 +137,8 @@ module _ {text : List ℕ} {start : ℕ} {table : List ℕ} {row at word cell : 
     -- a cell that is not 0: an operand
     module _ (on : not (eqb (get_or table cell 0) 0) ≡ true) where
       -- no limit is above 2^25
-      pub limit-fits : get_or table cell 0 ≤ 2 ^ 25
-      limit-fits = (cells.limit-within there on).1
+      pub limit_fits : get_or table cell 0 ≤ 2 ^ 25
+      limit_fits = (cells.limit_within there on).1
 
       apart : drop so_far.o (ops_of row) ≡ op_at row so_far.o ∷ drop (so_far.o + 1) (ops_of row)
       apart = rw add-one (drop-cons (ops_of row) so_far.o _ (cells.one_more there on))
@@ -149,59 +149,59 @@ module _ {text : List ℕ} {start : ℕ} {table : List ℕ} {row at word cell : 
       module _ {t : Bool} (test : t ≡ begins_with SPACE (drop at text)) where
         -- no space
         pub unspaced : not t ≡ true → {r : Operands} → r ≡ not_stated → r ≡ whole_of text start row
-        unspaced off q = q ∙ sym (not-spaced (row_notation row) _ _ word at (drop at text) (sym test ∙ not-true t off)) ∙ whole_is
+        unspaced off q = q ∙ sym (not_spaced (row_notation row) _ _ word at (drop at text) (sym test ∙ not-true t off)) ∙ whole_is
 
         module _ (spaced : not t ≡ false) where
-          space-there : begins_with SPACE (drop at text) ≡ true
-          space-there = sym test ∙ not-false t spaced
+          space_there : begins_with SPACE (drop at text) ≡ true
+          space_there = sym test ∙ not-false t spaced
 
           -- behind a space there may be a number
-          pub behind-space : at + 1 ≤ length text
-          behind-space = omega (arith, begins_within SPACE text at space-there)
+          pub behind_space_lem : at + 1 ≤ length text
+          behind_space_lem = omega (arith, begins_within SPACE text at space_there)
 
-          module _ (r : Number) (read-there : NumberRead r (notation_of (get_or table (11 * row + 1) 0)) (get_or table cell 0) (drop (at + 1) text)) where
+          module _ (r : Number) (read_there : NumberRead r (notation_of (get_or table (11 * row + 1) 0)) (get_or table cell 0) (drop (at + 1) text)) where
             read : NumberRead r (row_notation row) (get_or table cell 0) (drop (at + 1) text)
-            read = subst (λ (n : Notation). NumberRead r n (get_or table cell 0) (drop (at + 1) text)) notation-is read-there
+            read = subst (λ (n : Notation). NumberRead r n (get_or table cell 0) (drop (at + 1) text)) notation_is read_there
 
             digits_are : digits_in (row_base row) (drop (at + 1) text) ≡ digits_at row text at
             digits_are = ap (digits_in (row_base row)) (sym (drop-drop 1 at text))
 
-            below-is : r.below ≡ says_below (row_notation row) (op_at row so_far.o).limit (digits_at row text at)
-            below-is = read.below ∙ rw (cells.limit_is there on, digits_are)
+            below_is : r.below ≡ says_below (row_notation row) (op_at row so_far.o).limit (digits_at row text at)
+            below_is = read.below ∙ rw (cells.limit_is there on, digits_are)
 
             -- no number below the limit
             pub unsaid : not r.below ≡ true → {s : Operands} → s ≡ not_stated → s ≡ whole_of text start row
-            unsaid off q = q ∙ sym (not-said (row_notation row) _ _ word at (drop at text) space-there (sym below-is ∙ not-true _ off)) ∙ whole_is
+            unsaid off q = q ∙ sym (not_said (row_notation row) _ _ word at (drop at text) space_there (sym below_is ∙ not-true _ off)) ∙ whole_is
 
             module _ (stated : not r.below ≡ false) where
               is_below : r.below ≡ true
               is_below = not-false _ stated
 
-              value-is : r.value ≡ number_of (row_base row) (digits_at row text at)
-              value-is = read.value is_below ∙ ap (number_of (row_base row)) digits_are
+              value_is : r.value ≡ number_of (row_base row) (digits_at row text at)
+              value_is = read.value is_below ∙ ap (number_of (row_base row)) digits_are
 
               size_is : r.size ≡ length (digits_at row text at)
               size_is = read.size is_below ∙ ap length digits_are
 
-              value-small : r.value < (op_at row so_far.o).limit
-              value-small = omega (arith, value-is, says_below_lem (row_notation row) _ (digits_at row text at) (sym below-is ∙ is_below))
+              value_small : r.value < (op_at row so_far.o).limit
+              value_small = omega (arith, value_is, says_below_lem (row_notation row) _ (digits_at row text at) (sym below_is ∙ is_below))
 
-              room-left : word + r.value * get_or table (cell + 1) 0 + most (drop (so_far.o + 1) (ops_of row)) < 2 ^ 25
-              room-left =
-                  rw (cells.weight_is there on) (omega (arith, adds_at_most (op_at row so_far.o) r.value value-small, so_far.room, ap most apart))
+              room_left : word + r.value * get_or table (cell + 1) 0 + most (drop (so_far.o + 1) (ops_of row)) < 2 ^ 25
+              room_left =
+                  rw (cells.weight_is there on) (omega (arith, adds_at_most (op_at row so_far.o) r.value value_small, so_far.room, ap most apart))
 
               -- a number below it: one operand more
-              pub operand-more : OperandsSoFar text start table row (at + (1 + r.size)) (word + r.value * get_or table (cell + 1) 0) (cell + 2)
-              operand-more = record {
-                the-table = so_far.the-table;
+              pub operand_more : OperandsSoFar text start table row (at + (1 + r.size)) (word + r.value * get_or table (cell + 1) 0) (cell + 2)
+              operand_more = record {
+                the_table = so_far.the_table;
                 long = so_far.long;
-                a-row = so_far.a-row;
+                a_row = so_far.a_row;
                 o = so_far.o + 1;
-                cell-of = omega (arith, so_far.cell-of);
+                cell_of = omega (arith, so_far.cell_of);
                 few = omega (arith, there.inside);
-                within = omega (arith, read.size is_below, front_fits (is_digit (row_base row)) (drop (at + 1) text), length-drop (at + 1) text, behind-space);
-                room = room-left;
+                within = omega (arith, read.size is_below, front_fits (is_digit_lem (row_base row)) (drop (at + 1) text), length-drop (at + 1) text, behind_space_lem);
+                room = room_left;
                 same =
-                    rw (value-is, size_is, cells.weight_is there on, ← drop-drop (1 + length (digits_at row text at)) at text, ← add_assoc at 1 (length (digits_at row text at)))
-                    (sym (one-said (row_notation row) _ _ word at (drop at text) space-there (sym below-is ∙ is_below)) ∙ whole_is);
+                    rw (value_is, size_is, cells.weight_is there on, ← drop-drop (1 + length (digits_at row text at)) at text, ← add_assoc at 1 (length (digits_at row text at)))
+                    (sym (one_said (row_notation row) _ _ word at (drop at text) space_there (sym below_is ∙ is_below)) ∙ whole_is);
               }

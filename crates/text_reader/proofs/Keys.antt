@@ -12,19 +12,19 @@ use lib.ListN.{length, get_or, drop, drop_of_length-le}
 use lib.Seq.{drop-cons}
 use Rattle.text_rules.specs.Forms.{Form, every_form, first_row}
 use Rattle.text_table.specs.Table.{key_of, form_table}
-use Rattle.text_table.proofs.Cells.{key-there}
+use Rattle.text_table.proofs.Cells.{key_there}
 use Rattle.text_reader.specs.Keys.{row_keyed}
 
 -- ---- in any list of forms
 
 module _ (test : Form → Bool) (fs : List Form) (d : Form) (row : ℕ) (h : row < length fs) where
-  first-here : test (get_or fs row d) ≡ true → first_row test (drop row fs) ≡ 0
+  first_here : test (get_or fs row d) ≡ true → first_row test (drop row fs) ≡ 0
   unfolding first_row
-  first-here e = rw (drop-cons fs row d h) (simp e)
+  first_here e = rw (drop-cons fs row d h) (simp e)
 
-  first-later : test (get_or fs row d) ≡ false → first_row test (drop row fs) ≡ suc (first_row test (drop (row + 1) fs))
+  first_later : test (get_or fs row d) ≡ false → first_row test (drop row fs) ≡ suc (first_row test (drop (row + 1) fs))
   unfolding first_row
-  first-later e = rw (drop-cons fs row d h, add-one) (simp e)
+  first_later e = rw (drop-cons fs row d h, add-one) (simp e)
 
 -- ---- in the table
 
@@ -39,11 +39,11 @@ From key row = row + first_row (has_key key) (drop row every_form) ≡ row_keyed
 module _ {table : List ℕ} (e : table ≡ form_table) (key row : ℕ) (h : row < 26) (from : From key row) where
   -- the row has the key
   pub key_here : get_or table (11 * row) 0 ≡ key → row ≡ row_keyed key
-  key_here k = omega (arith, first-here (has_key key) every_form _ row h (eq-eqb _ _ (sym (key-there e row h) ∙ k)))
+  key_here k = omega (arith, first_here (has_key key) every_form _ row h (eq-eqb _ _ (sym (key_there e row h) ∙ k)))
 
   -- it has another: the next row
-  pub key-later : (get_or table (11 * row) 0 ≡ key → ⊥) → From key (row + 1)
-  key-later n = omega (arith, first-later (has_key key) every_form _ row h (ne_eqb _ _ (λ k. n (key-there e row h ∙ k))))
+  pub key_later : (get_or table (11 * row) 0 ≡ key → ⊥) → From key (row + 1)
+  key_later n = omega (arith, first_later (has_key key) every_form _ row h (ne_eqb _ _ (λ k. n (key_there e row h ∙ k))))
 
 -- behind the last row none has it
 pub key_never : (key row : ℕ) → 26 ≤ row → From key row → row ≡ row_keyed key

@@ -44,22 +44,22 @@ module _ (text : List ℕ) (bytes : (i : ℕ) → Fits w8 (get_or text i 0)) (n 
     size_is = read.size ∙ ap length (named_whole (name_in text) (omega (arith, row_is)))
 
     -- the text is at least as long as its name
-    pub name-within : n.size ≤ length text
-    name-within = omega (arith, size_is, front_fits in_name text)
+    pub name_within : n.size ≤ length text
+    name_within = omega (arith, size_is, front_fits in_name text)
 
     module _ (s : Operands) (said : s ≡ operands_in (form_at row).notation (form_at row).operands (form_at row).word n.size (drop n.size text)) where
-      said-is : s ≡ behind_name (form_at (row_named (name_in text))) (name_in text) text
-      said-is = said ∙ rw (size_is, row_is)
+      said_is : s ≡ behind_name (form_at (row_named (name_in text))) (name_in text) text
+      said_is = said ∙ rw (size_is, row_is)
 
       -- a name behind which something is not as stated
-      pub no-operands : not s.stated ≡ true → {r : Line} → r ≡ refused_line OPERANDS → r ≡ line_of text
+      pub no_operands : not s.stated ≡ true → {r : Line} → r ≡ refused_line OPERANDS → r ≡ line_of text
       unfolding line_of
-      no-operands off e =
-          e ∙ passes _ _ _ (known h) (stops _ _ (sym (ap (λ (o : Operands). not o.stated) said-is) ∙ off))
+      no_operands off e =
+          e ∙ passes _ _ _ (known h) (stops _ _ (sym (ap (λ (o : Operands). not o.stated) said_is) ∙ off))
 
       -- a line that is as stated
       pub line_read : not s.stated ≡ false → accepted_line s.word s.size ≡ line_of text
       unfolding line_of
       line_read on =
-          ap (λ (o : Operands). accepted_line o.word o.size) said-is
-          ∙ passes _ _ _ (known h) (passes _ _ _ (sym (ap (λ (o : Operands). not o.stated) said-is) ∙ on) ends)
+          ap (λ (o : Operands). accepted_line o.word o.size) said_is
+          ∙ passes _ _ _ (known h) (passes _ _ _ (sym (ap (λ (o : Operands). not o.stated) said_is) ∙ on) ends)

@@ -13,9 +13,9 @@ use lib.ListN.{length, get_or, drop}
 use lib.Seq.{get_or-drop}
 use Rattle.table.proofs.Decided.{denied, not_denied}
 use Rattle.text_rules.specs.Front.{front_while}
-use Rattle.text_rules.specs.Number.{Notation, base_of, digit_of, is_digit, digits_in, positional, number_of, no_leading_zero, is_numeral, says_below}
+use Rattle.text_rules.specs.Number.{Notation, base_of, digit_of, is_digit_lem, digits_in, positional, number_of, no_leading_zero, is_numeral, says_below}
 use Rattle.text_rules.specs.Number.Notation.{decimal, seven_hex}
-use Rattle.text_rules.proofs.Fronts.{front-ended, front-more}
+use Rattle.text_rules.proofs.Fronts.{front_ended, front_more}
 use Rattle.text_rules.proofs.Positional.{at_least}
 use Rattle.text_reader.specs.declared.number.Number.{Number}
 use Rattle.text_reader.specs.Front.{notation_of, DigitsRead, NumberRead}
@@ -71,7 +71,7 @@ first_of false b l h = absurd (omega arith)
 first_digit : (base : ℕ) (l : List ℕ) → 0 < length (digits_in base l) → get_or (digits_in base l) 0 0 ≡ get_or l 0 0
 unfolding front_while
 first_digit base [] h = refl
-first_digit base (b ∷ l) h = first_of (is_digit base b) b (digits_in base l) h
+first_digit base (b ∷ l) h = first_of (is_digit_lem base b) b (digits_in base l) h
 
 -- whether the digits from a place to their end are one, by the tests of the code
 module _ (text : List ℕ) (at end base : ℕ) (size : end - at ≡ length (digits_in base (drop at text))) where
@@ -88,20 +88,20 @@ module _ (text : List ℕ) (at end base : ℕ) (size : end - at ≡ length (digi
     in_decimal = ap (λ (t : Bool). is_numeral (cond t seven_hex decimal) digits) (ne_eqb base 16 n)
 
     -- no digits
-    pub no-digits : end ≡ at → not (eqb end at) ≡ is_numeral (notation_of base) (digits_in base (drop at text))
-    no-digits e = not_denied (eq-eqb end at e) ∙ sym (in_decimal ∙ no_numeral digits (omega arith))
+    pub no_digits : end ≡ at → not (eqb end at) ≡ is_numeral (notation_of base) (digits_in base (drop at text))
+    no_digits e = not_denied (eq-eqb end at e) ∙ sym (in_decimal ∙ no_numeral digits (omega arith))
 
     module _ (some : at < end) where
       front : get_or digits 0 0 ≡ get_or text at 0
       front = first_digit base (drop at text) (omega arith) ∙ get_or-drop at text 0 0 ∙ ap (λ (i : ℕ). get_or text i 0) (add-zero at)
 
       -- digits that do not begin with a zero
-      pub other-first : (get_or text at 0 ≡ 48 → ⊥) → not (eqb (get_or text at 0) 48) ≡ is_numeral (notation_of base) (digits_in base (drop at text))
-      other-first z = denied (ne_eqb (get_or text at 0) 48 z) ∙ sym (in_decimal ∙ no_leading_zero_lem digits (omega arith) (λ e. z (sym front ∙ e)))
+      pub other_first : (get_or text at 0 ≡ 48 → ⊥) → not (eqb (get_or text at 0) 48) ≡ is_numeral (notation_of base) (digits_in base (drop at text))
+      other_first z = denied (ne_eqb (get_or text at 0) 48 z) ∙ sym (in_decimal ∙ no_leading_zero_lem digits (omega arith) (λ e. z (sym front ∙ e)))
 
       -- a zero, and that it stands alone
-      pub zero-first : get_or text at 0 ≡ 48 → eqb end (at + 1) ≡ is_numeral (notation_of base) (digits_in base (drop at text))
-      zero-first z = go (eqb end (at + 1)) refl
+      pub zero_first : get_or text at 0 ≡ 48 → eqb end (at + 1) ≡ is_numeral (notation_of base) (digits_in base (drop at text))
+      zero_first z = go (eqb end (at + 1)) refl
         where
           go : (t : Bool) → eqb end (at + 1) ≡ t → t ≡ is_numeral (notation_of base) digits
           go true e = let alone = eqb-true end (at + 1) e in sym (in_decimal ∙ one_digit digits (omega arith))
@@ -114,9 +114,9 @@ module _ (notation : Notation) (limit : ℕ) (ds : List ℕ) where
   unfolding says_below
   too_large h = simp (le-ltb (number_of (base_of notation) ds) limit h, and-false)
 
-  not-numeral : is_numeral notation ds ≡ false → says_below notation limit ds ≡ false
+  not_numeral : is_numeral notation ds ≡ false → says_below notation limit ds ≡ false
   unfolding says_below
-  not-numeral e = simp e
+  not_numeral e = simp e
 
   said : is_numeral notation ds ≡ true → number_of (base_of notation) ds < limit → says_below notation limit ds ≡ true
   unfolding says_below
@@ -147,15 +147,15 @@ module _ {base : ℕ} {text : List ℕ} {at value end : ℕ} (so_far : NumberSoF
   module _ (more : end < length text) {d : ℕ} (digit-is : d ≡ digit_of (get_or text end 0)) where
     pub number_more : d < base → NumberSoFar base text at (base * value + d) (end + 1)
     number_more h =
-        let left = front-more (is_digit base) text end more (ap (λ (n : ℕ). ltb n base) (sym digit-is) ∙ lt-ltb d base h) in
+        let left = front_more (is_digit_lem base) text end more (ap (λ (n : ℕ). ltb n base) (sym digit-is) ∙ lt-ltb d base h) in
         record {
           value_of = rw digit-is (sym (ap (λ (ds : List ℕ). positional base value (map digit_of ds)) left) ∙ so_far.value_of);
           size_of = omega (arith, so_far.size_of, ap length left);
         }
 
     -- a byte that is no digit
-    pub number-ended : base ≤ d → digits_in base (drop end text) ≡ []
-    number-ended h = front-ended (is_digit base) text end more (ap (λ (n : ℕ). ltb n base) (sym digit-is) ∙ le-ltb d base h)
+    pub number_ended : base ≤ d → digits_in base (drop end text) ≡ []
+    number_ended h = front_ended (is_digit_lem base) text end more (ap (λ (n : ℕ). ltb n base) (sym digit-is) ∙ le-ltb d base h)
 
   -- where no digit is left, all are read
   pub all_read : digits_in base (drop end text) ≡ [] → DigitsRead base (drop at text) value (end - at)
@@ -188,8 +188,8 @@ module _ (text : List ℕ) (at end value limit : ℕ) (notation : Notation) {bas
   all_there = subst (λ (b : ℕ). DigitsRead b (drop at text) value (end - at)) is all
 
   -- a number that is not below the limit
-  pub above-limit : {r : Number} → r ≡ none → limit ≤ value → NumberRead r notation limit (drop at text)
-  above-limit {r} e h = refuses r notation limit (drop at text) e (too_large notation limit _ (omega (arith, all_there.value)))
+  pub above_limit : {r : Number} → r ≡ none → limit ≤ value → NumberRead r notation limit (drop at text)
+  above_limit {r} e h = refuses r notation limit (drop at text) e (too_large notation limit _ (omega (arith, all_there.value)))
 
   module _ {t : Bool} (test : t ≡ is_numeral notation (digits_in base (drop at text))) where
     tested : is_numeral notation (digits_in (base_of notation) (drop at text)) ≡ t
@@ -197,7 +197,7 @@ module _ (text : List ℕ) (at end value limit : ℕ) (notation : Notation) {bas
 
     -- no numeral
     pub no_number : {r : Number} → r ≡ none → t ≡ false → NumberRead r notation limit (drop at text)
-    no_number {r} e off = refuses r notation limit (drop at text) e (not-numeral notation limit _ (tested ∙ off))
+    no_number {r} e off = refuses r notation limit (drop at text) e (not_numeral notation limit _ (tested ∙ off))
 
     -- a numeral
     pub number_read : t ≡ true → value < limit → NumberRead (number value (end - at)) notation limit (drop at text)

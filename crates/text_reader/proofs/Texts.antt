@@ -8,7 +8,7 @@ use lib.ListN.{length, take, drop, set, replicate, drop_of_length-le, length-app
 use lib.Seq.{take_all, drop-drop}
 use Rattle.table.specs.Refusal.{LINES}
 use Rattle.job_rules.specs.Read.{filled}
-use Rattle.job_rules.proofs.Pieces.{one-filled}
+use Rattle.job_rules.proofs.Pieces.{one_filled}
 use Rattle.text_rules.specs.declared.Line.{Line}
 use Rattle.text_rules.specs.declared.ReadText.{ReadText}
 use Rattle.text_rules.specs.Line.{line_of}
@@ -38,8 +38,8 @@ no_line text = record {
 
 module _ {text words : List ℕ} {n at : ℕ} (so_far : TextSoFar text words n at) where
   -- nothing is left: the text is accepted
-  pub text-ended : length text ≤ at → record { refusal = 0; line = 0; words = words; n = record { 0 = n } } ≡ read_text_of text
-  text-ended h =
+  pub text_ended : length text ≤ at → record { refusal = 0; line = 0; words = words; n = record { 0 = n } } ≡ read_text_of text
+  text_ended h =
       rw (so_far.stored, so_far.count)
       (sym (at_end (64 - n) so_far.said) ∙ ap (read_from (64 - n) so_far.said) (sym (drop_of_length-le text h)) ∙ so_far.same)
 
@@ -47,13 +47,13 @@ module _ {text words : List ℕ} {n at : ℕ} (so_far : TextSoFar text words n a
     some_left : 0 < length (drop at text)
     some_left = omega (arith, length-drop at text)
 
-    with-left : (left : ℕ) → 64 - n ≡ left → read_from left so_far.said (drop at text) ≡ read_text_of text
-    with-left left e = ap (λ (k : ℕ). read_from k so_far.said (drop at text)) (sym e) ∙ so_far.same
+    with_left : (left : ℕ) → 64 - n ≡ left → read_from left so_far.said (drop at text) ≡ read_text_of text
+    with_left left e = ap (λ (k : ℕ). read_from k so_far.said (drop at text)) (sym e) ∙ so_far.same
 
     -- a 65th line
-    pub line-65 : n ≡ 64 → {r : ReadText} → r ≡ refused_text LINES n → r ≡ read_text_of text
-    line-65 full e =
-        e ∙ ap (refused_text LINES) so_far.count ∙ sym (one_too_many so_far.said (drop at text) some_left) ∙ with-left 0 (omega arith)
+    pub line_65 : n ≡ 64 → {r : ReadText} → r ≡ refused_text LINES n → r ≡ read_text_of text
+    line_65 full e =
+        e ∙ ap (refused_text LINES) so_far.count ∙ sym (one_too_many so_far.said (drop at text) some_left) ∙ with_left 0 (omega arith)
 
     module _ (room : n ≡ 64 → ⊥) (line : Line) (read : line ≡ line_of (take (length text - at) (drop at text))) where
       below : n < 64
@@ -62,30 +62,30 @@ module _ {text words : List ℕ} {n at : ℕ} (so_far : TextSoFar text words n a
       one_less : 64 - n ≡ suc (64 - (n + 1))
       one_less = omega (arith, below)
 
-      line-is : line ≡ line_of (drop at text)
-      line-is = read ∙ ap line_of (take_all (length text - at) (drop at text) (omega (arith, length-drop at text)))
+      line_is : line ≡ line_of (drop at text)
+      line_is = read ∙ ap line_of (take_all (length text - at) (drop at text) (omega (arith, length-drop at text)))
 
       -- a faulty line
       pub line_refused : (line.refusal ≡ 0 → ⊥) → {r : ReadText} → r ≡ refused_text line.refusal n → r ≡ read_text_of text
       line_refused bad e =
-          let number : line.refusal ≡ (line_of (drop at text)).refusal = ap (λ (x : Line). x.refusal) line-is in
+          let number : line.refusal ≡ (line_of (drop at text)).refusal = ap (λ (x : Line). x.refusal) line_is in
           e
           ∙ ap (λ (k : ℕ). refused_text k n) number
           ∙ ap (refused_text (line_of (drop at text)).refusal) so_far.count
           ∙ sym (refused_there (64 - (n + 1)) so_far.said (drop at text) some_left (λ z. bad (number ∙ z)))
-          ∙ with-left (suc (64 - (n + 1))) one_less
+          ∙ with_left (suc (64 - (n + 1))) one_less
 
       -- a line that is accepted: one line more
-      pub line-more : line.refusal ≡ 0 → TextSoFar text (set words n line.word) (n + 1) (at + line.size)
-      line-more good =
+      pub line_more : line.refusal ≡ 0 → TextSoFar text (set words n line.word) (n + 1) (at + line.size)
+      line_more good =
           let said = so_far.said in
-          let fits : line.size ≤ length (drop at text) = rw line-is (line_fits (drop at text) (rw line-is at good)).1 in
+          let fits : line.size ≤ length (drop at text) = rw line_is (line_fits (drop at text) (rw line_is at good)).1 in
           record {
             said = said ++ line.word ∷ [];
             count = omega (arith, so_far.count, length-append said (line.word ∷ []));
             few = omega (arith, below);
-            stored = rw (so_far.stored, so_far.count) (one-filled 64 0 line.word said (omega (arith, below, so_far.count)));
+            stored = rw (so_far.stored, so_far.count) (one_filled 64 0 line.word said (omega (arith, below, so_far.count)));
             within = omega (arith, fits, length-drop at text, so_far.within);
-            same = rw (line-is, ← drop-drop (line_of (drop at text)).size at text)
-                (sym (goes_on_lem (64 - (n + 1)) said (drop at text) (rw line-is at good)) ∙ with-left (suc (64 - (n + 1))) one_less);
+            same = rw (line_is, ← drop-drop (line_of (drop at text)).size at text)
+                (sym (goes_on_lem (64 - (n + 1)) said (drop at text) (rw line_is at good)) ∙ with_left (suc (64 - (n + 1))) one_less);
           }

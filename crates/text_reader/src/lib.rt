@@ -1,5 +1,7 @@
 // The reader of program text: line by line, each by the table of forms.
 
+#![tactic(auto)]
+
 ghost use Rattle.std.specs.Prelude.{◌≤◌, ◌≡◌};
 ghost use Rattle.text_rules.specs.Line.{refused_line, line_of};
 ghost use Rattle.text_rules.specs.Text.{refused_text, read_text_of, bytes_to_read};

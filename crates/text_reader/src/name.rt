@@ -8,7 +8,7 @@ ghost use Rattle.text_reader.specs.Front.{NameRead};
 const LONGEST: usize = 7;
 
 // A name as a number, its bytes behind a 1, so that no two names have the same; and how many bytes it has.
-#[derive(Drop)]
+#[derive(Clone, Copy)]
 pub(crate) struct Name {
     pub(crate) key: u64,
     pub(crate) size: usize,

@@ -10,7 +10,7 @@ use text_table::digit;
 const HEX_DIGITS: usize = 7;
 
 // Whether there is a number below its limit; then the number, and how many digits it has.
-#[derive(Drop)]
+#[derive(Clone, Copy)]
 pub(crate) struct Number {
     pub(crate) below: bool,
     pub(crate) value: u64,

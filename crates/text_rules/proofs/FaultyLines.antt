@@ -13,7 +13,7 @@ use Rattle.text_rules.specs.declared.Line.{Line}
 use Rattle.text_rules.specs.declared.ReadText.{ReadText}
 use Rattle.text_rules.specs.Forms.{Form, form_at, row_named}
 use Rattle.text_rules.specs.Front.{front_while}
-use Rattle.text_rules.specs.Number.{Notation, base_of, digit_of, is_digit, digits_for}
+use Rattle.text_rules.specs.Number.{Notation, base_of, digit_of, is_digit_lem, digits_for}
 use Rattle.text_rules.specs.Line.{NEWLINE, in_name, name_in, refused_line, line_of}
 use Rattle.text_rules.specs.Text.{refused_text, read_from, read_text_of}
 use Rattle.text_rules.specs.Number.Notation.{decimal, seven_hex}
@@ -34,10 +34,10 @@ NoNewline l = All (λ (b : ℕ). b ≡ NEWLINE → ⊥) l
 no_name : (b : ℕ) → in_name b ≡ true → b ≡ NEWLINE → ⊥
 no_name b e z = false≢true (ap in_name (sym z) ∙ e)
 
-no_digit : (notation : Notation) (b : ℕ) → is_digit (base_of notation) b ≡ true → b ≡ NEWLINE → ⊥
+no_digit : (notation : Notation) (b : ℕ) → is_digit_lem (base_of notation) b ≡ true → b ≡ NEWLINE → ⊥
 unfolding digit_of
-no_digit decimal b e z = false≢true (ap (is_digit 10) (sym z) ∙ e)
-no_digit seven_hex b e z = false≢true (ap (is_digit 16) (sym z) ∙ e)
+no_digit decimal b e z = false≢true (ap (is_digit_lem 10) (sym z) ∙ e)
+no_digit seven_hex b e z = false≢true (ap (is_digit_lem 16) (sym z) ∙ e)
 
 none_in_numbers : (notation : Notation) (vs : List ℕ) → NoNewline (numbers_text notation vs)
 unfolding flat_map
@@ -86,11 +86,11 @@ accepted_alone line rest other h e =
     let behind : List ℕ = drop (line_of (line ++ NEWLINE ∷ rest)).size (line ++ NEWLINE ∷ rest) in
     let same : line ≡ body
     = first_newline line body rest behind h
-    (all_append _ f.name numbers (all_map no_name f.name (every_all in_name f.name (sound s.row s.a-row).named)) (none_in_numbers f.notation s.numbers))
+    (all_append _ f.name numbers (all_map no_name f.name (every_all in_name f.name (sound s.row s.a_row).named)) (none_in_numbers f.notation s.numbers))
     (s.written ∙ append_assoc body (NEWLINE ∷ []) behind) in
     ap (λ (x : List ℕ). (line_of (x ++ NEWLINE ∷ other)).refusal) same
     ∙ ap (λ (x : List ℕ). (line_of x).refusal) (sym (append_assoc body (NEWLINE ∷ []) other))
-    ∙ ap (λ (x : Line). x.refusal) (stated_line s.row s.numbers other s.a-row s.below)
+    ∙ ap (λ (x : Line). x.refusal) (stated_line s.row s.numbers other s.a_row s.below)
 
 -- where it is refused, that is decided by what stands before the newline
 faulty_line : (line rest : List ℕ) → NoNewline line → ((line_of (line ++ NEWLINE ∷ [])).refusal ≡ 0 → ⊥)
@@ -108,8 +108,8 @@ module _ (front : List ℕ) (good : (read_text_of front).refusal ≡ 0) where
     many : length words ≡ (read_text_of front).n.0
     answer : read_text_of (front ++ rest) ≡ read_from (64 - length words) words rest
 
-  goes-on-behind : (rest : List ℕ) → GoesOn rest
-  goes-on-behind rest =
+  goes_on_behind : (rest : List ℕ) → GoesOn rest
+  goes_on_behind rest =
       let s = accepted_text_lem front good in
       record {
         words = words_of s.lines;
@@ -120,10 +120,10 @@ module _ (front : List ℕ) (good : (read_text_of front).refusal ≡ 0) where
       }
 
   -- behind good lines, fewer than 64, a faulty line is the answer, with its number, whatever stands behind its newline
-  pub behind-a-faulty-line : (line rest : List ℕ) → (read_text_of front).n.0 < 64 → NoNewline line → ((line_of (line ++ NEWLINE ∷ [])).refusal ≡ 0 → ⊥)
+  pub behind_a_faulty_line : (line rest : List ℕ) → (read_text_of front).n.0 < 64 → NoNewline line → ((line_of (line ++ NEWLINE ∷ [])).refusal ≡ 0 → ⊥)
       → read_text_of (front ++ (line ++ NEWLINE ∷ rest)) ≡ refused_text (line_of (line ++ NEWLINE ∷ [])).refusal (read_text_of front).n.0
-  behind-a-faulty-line line rest few h isnt =
-      let s = goes-on-behind (line ++ NEWLINE ∷ rest) in
+  behind_a_faulty_line line rest few h isnt =
+      let s = goes_on_behind (line ++ NEWLINE ∷ rest) in
       let many = s.many in
       let same = faulty_line line rest h isnt in
       let left : 64 - length s.words ≡ suc (63 - length s.words) = omega arith in
@@ -134,9 +134,9 @@ module _ (front : List ℕ) (good : (read_text_of front).refusal ≡ 0) where
       ∙ ap (refused_text (line_of (line ++ NEWLINE ∷ [])).refusal) many
 
   -- behind 64 good lines anything is refused, whatever it holds
-  pub behind-64-lines : (rest : List ℕ) → (read_text_of front).n.0 ≡ 64 → 0 < length rest → read_text_of (front ++ rest) ≡ refused_text LINES 64
-  behind-64-lines rest all some =
-      let s = goes-on-behind rest in
+  pub behind_64_lines : (rest : List ℕ) → (read_text_of front).n.0 ≡ 64 → 0 < length rest → read_text_of (front ++ rest) ≡ refused_text LINES 64
+  behind_64_lines rest all some =
+      let s = goes_on_behind rest in
       let many : length s.words ≡ 64 = s.many ∙ all in
       let left : 64 - length s.words ≡ 0 = omega arith in
       s.answer ∙ ap (λ (k : ℕ). read_from k s.words rest) left ∙ one_too_many s.words rest some ∙ ap (refused_text LINES) many

@@ -57,7 +57,7 @@ accepted_before text rest e =
     let line : List ℕ = line_text (form_at s.row) s.numbers in
     let behind : List ℕ = drop (line_of text).size text in
     ap (λ (x : List ℕ). line_of (x ++ rest)) s.written ∙ ap line_of (append_assoc line behind rest)
-    ∙ stated_line s.row s.numbers (behind ++ rest) s.a-row s.below ∙ sym s.answer
+    ∙ stated_line s.row s.numbers (behind ++ rest) s.a_row s.below ∙ sym s.answer
 
 -- the text cut so many bytes behind its first line
 record Cut (n : ℕ) (text : List ℕ) : Type 0 where
@@ -70,13 +70,13 @@ cut_accepted n text h e =
     let s = accepted_line_lem text e in
     let line : List ℕ = line_text (form_at s.row) s.numbers in
     let rest : List ℕ = drop (line_of text).size text in
-    let few : length line ≤ 19 = longest_written s.row s.numbers s.a-row s.below in
+    let few : length line ≤ 19 = longest_written s.row s.numbers s.a_row s.below in
     let size : (line_of text).size ≡ length line = ap (λ (x : Line). x.size) s.answer in
     let all : length line + (n - length line) ≡ n = omega arith in
     let cut : take n text ≡ line ++ take (n - length line) rest
     = ap (λ (k : ℕ). take k text) (sym all) ∙ ap (take (length line + (n - length line))) s.written ∙ take-append-add line rest (n - length line) in
     record {
-      same = ap line_of cut ∙ stated_line s.row s.numbers (take (n - length line) rest) s.a-row s.below ∙ sym s.answer;
+      same = ap line_of cut ∙ stated_line s.row s.numbers (take (n - length line) rest) s.a_row s.below ∙ sym s.answer;
       behind =
           ap (λ (k : ℕ). drop k (take n text)) size ∙ ap (drop (length line)) cut ∙ drop-append_seam line (take (n - length line) rest)
           ∙ ap (λ (k : ℕ). take (n - k) rest) (sym size);

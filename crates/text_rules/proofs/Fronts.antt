@@ -34,17 +34,17 @@ module _ (P : ℕ → Type 0) where
   all_apart (x ∷ xs) ys h = let rest = all_apart xs ys h.1 in ((h.0, rest.0), rest.1)
 
   -- cut at a place
-  pub all-parts : (n : ℕ) (xs : List ℕ) → All P xs → All P (take n xs) × All P (drop n xs)
-  all-parts n xs h = all_apart (take n xs) (drop n xs) (subst (All P) (sym (take-append-drop n xs)) h)
+  pub all_parts : (n : ℕ) (xs : List ℕ) → All P xs → All P (take n xs) × All P (drop n xs)
+  all_parts n xs h = all_apart (take n xs) (drop n xs) (subst (All P) (sym (take-append-drop n xs)) h)
 
 -- ---- the front of a text
 
 module _ (test : ℕ → Bool) where
   -- all of it passes
-  pub front-passes : (l : List ℕ) → All (λ (b : ℕ). test b ≡ true) (front_while test l)
+  pub front_passes : (l : List ℕ) → All (λ (b : ℕ). test b ≡ true) (front_while test l)
   unfolding front_while
-  front-passes [] = tt
-  front-passes (b ∷ l) = by (test b) refl (front-passes l)
+  front_passes [] = tt
+  front_passes (b ∷ l) = by (test b) refl (front_passes l)
     where
       by : (t : Bool) → test b ≡ t → All (λ (b : ℕ). test b ≡ true) (front_while test l) → All (λ (b : ℕ). test b ≡ true) (cond t (b ∷ front_while test l) [])
       by true e rest = (e, rest)
@@ -61,24 +61,24 @@ module _ (test : ℕ → Bool) where
       by false h = omega arith
 
   -- it stands in front of what is behind it
-  pub front-stands : (l : List ℕ) → front_while test l ++ drop (length (front_while test l)) l ≡ l
+  pub front_stands : (l : List ℕ) → front_while test l ++ drop (length (front_while test l)) l ≡ l
   unfolding front_while
-  front-stands [] = refl
-  front-stands (b ∷ l) = by (test b) (front_while test l) (front-stands l)
+  front_stands [] = refl
+  front_stands (b ∷ l) = by (test b) (front_while test l) (front_stands l)
     where
       by : (t : Bool) (m : List ℕ) → m ++ drop (length m) l ≡ l → cond t (b ∷ m) [] ++ drop (length (cond t (b ∷ m) [])) (b ∷ l) ≡ b ∷ l
       by true m e = ap (λ (r : List ℕ). b ∷ r) e
       by false m e = refl
 
   -- so what holds of all of the text holds of all of it
-  pub all-front : (P : ℕ → Type 0) (l : List ℕ) → All P l → All P (front_while test l)
-  all-front P l h = (all_apart P (front_while test l) (drop (length (front_while test l)) l) (subst (All P) (sym (front-stands l)) h)).0
+  pub all_front : (P : ℕ → Type 0) (l : List ℕ) → All P l → All P (front_while test l)
+  all_front P l h = (all_apart P (front_while test l) (drop (length (front_while test l)) l) (subst (All P) (sym (front_stands l)) h)).0
 
   -- bytes that pass, and the front of what follows
-  pub front-then : (xs rest : List ℕ) → All (λ (b : ℕ). test b ≡ true) xs → front_while test (xs ++ rest) ≡ xs ++ front_while test rest
+  pub front_then : (xs rest : List ℕ) → All (λ (b : ℕ). test b ≡ true) xs → front_while test (xs ++ rest) ≡ xs ++ front_while test rest
   unfolding front_while
-  front-then [] rest h = refl
-  front-then (x ∷ xs) rest h = rw h.0 (ap (λ (m : List ℕ). x ∷ m) (front-then xs rest h.1))
+  front_then [] rest h = refl
+  front_then (x ∷ xs) rest h = rw h.0 (ap (λ (m : List ℕ). x ∷ m) (front_then xs rest h.1))
 
   -- where the text is cut, so is its front
   pub front_cut : (n : ℕ) (l : List ℕ) → front_while test (take n l) ≡ take n (front_while test l)
@@ -94,17 +94,17 @@ module _ (test : ℕ → Bool) where
   -- ---- from a place on
 
   -- at the end of the text there is none
-  pub front-at-end : (l : List ℕ) (at : ℕ) → length l ≤ at → front_while test (drop at l) ≡ []
+  pub front_at_end : (l : List ℕ) (at : ℕ) → length l ≤ at → front_while test (drop at l) ≡ []
   unfolding front_while
-  front-at-end l at h = rw (drop_of_length-le l h)
+  front_at_end l at h = rw (drop_of_length-le l h)
 
   module _ (l : List ℕ) (at : ℕ) (h : at < length l) where
     -- nor at a byte that fails
-    pub front-ended : test (get_or l at 0) ≡ false → front_while test (drop at l) ≡ []
+    pub front_ended : test (get_or l at 0) ≡ false → front_while test (drop at l) ≡ []
     unfolding front_while
-    front-ended e = rw (drop-cons l at 0 h) (simp e)
+    front_ended e = rw (drop-cons l at 0 h) (simp e)
 
     -- a byte that passes, and the front behind it
-    pub front-more : test (get_or l at 0) ≡ true → front_while test (drop at l) ≡ get_or l at 0 ∷ front_while test (drop (at + 1) l)
+    pub front_more : test (get_or l at 0) ≡ true → front_while test (drop at l) ≡ get_or l at 0 ∷ front_while test (drop (at + 1) l)
     unfolding front_while
-    front-more e = rw (drop-cons l at 0 h, add-one) (simp e)
+    front_more e = rw (drop-cons l at 0 h, add-one) (simp e)

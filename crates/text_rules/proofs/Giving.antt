@@ -17,7 +17,7 @@ use Rattle.text_rules.specs.Listing.{number_in, numbers_in, put, word_with, give
 use Rattle.text_rules.proofs.Written.{Below, word_of}
 use Rattle.text_rules.proofs.Rows.{both, every, agree, most, has_limit, has_limit_lem, first_passes, first_is, sound}
 use Rattle.text_rules.proofs.Limits.{adds_at_most}
-use Rattle.text_rules.proofs.Words.{IsMultiply, IsShort, li_words, multiply-words, short_words, multiply_base, multiply_operands, short_base, short_few, in_fields, first_field, for_listed, of_three_kinds, four}
+use Rattle.text_rules.proofs.Words.{IsMultiply, IsShort, li_words, multiply_words, short_words, multiply_base, multiply_operands, short_base, short_few, in_fields, first_field, for_listed, of_three_kinds, four}
 
 -- ---- the row
 
@@ -127,7 +127,7 @@ li_told : Told 0
 li_told =
     for_listed (rd ∷ index ∷ immediate ∷ []) (λ (vs : List ℕ). numbers_in (word_of 0 vs) (form_at 0) ≡ vs) (λ vs b.
     let f = li_words _ _ _ b.0 b.1.0 b.1.1.0 in
-    λ i. f.in-rd i ∷ f.in-index i ∷ f.in-immediate i ∷ [])
+    λ i. f.in_rd i ∷ f.in_index i ∷ f.in_immediate i ∷ [])
 
 -- where the fields of a word of another row hold the numbers
 by_fields : (row : ℕ) → 0 < row → row < 25 → (w : ℕ) (vs : List ℕ) → Below (form_at row).operands vs
@@ -142,22 +142,22 @@ multiply_told : (k : ℕ) → k < 8 → Told (1 + k)
 multiply_told k h vs b =
     by_fields (1 + k) (omega arith) (omega arith) (word_of (1 + k) vs) vs b (λ i j.
     for_listed four (λ (us : List ℕ). word_of (1 + k) us / 2 ^ (0 + 5 * i) % 32 ≡ get_or us i 0) (λ us c.
-    four-held _ _ _ _ c.0 c.1.0 c.1.1.0 c.1.1.1.0 i (omega (arith, ap length (multiply_operands k h))))
+    four_held _ _ _ _ c.0 c.1.0 c.1.1.0 c.1.1.1.0 i (omega (arith, ap length (multiply_operands k h))))
     vs (subst (λ (os : List Operand). Below os vs) (multiply_operands k h) b))
   where
-    four-held : (d s1 s2 s3 : ℕ) → d < 32 → s1 < 32 → s2 < 32 → s3 < 32 → (i : ℕ) → i < 4
+    four_held : (d s1 s2 s3 : ℕ) → d < 32 → s1 < 32 → s2 < 32 → s3 < 32 → (i : ℕ) → i < 4
         → word_of (1 + k) (d ∷ s1 ∷ s2 ∷ s3 ∷ []) / 2 ^ (0 + 5 * i) % 32 ≡ get_or (d ∷ s1 ∷ s2 ∷ s3 ∷ []) i 0
-    four-held d s1 s2 s3 hd h1 h2 h3 i j =
+    four_held d s1 s2 s3 hd h1 h2 h3 i j =
         let e : 4 * (k / 4) + 2 * (k / 2 % 2) + k % 2 ≡ k = omega arith in
-        let f = multiply-words (k / 4) (k / 2 % 2) (k % 2) d s1 s2 s3 (omega arith) (omega arith) (omega arith) hd h1 h2 h3 in
+        let f = multiply_words (k / 4) (k / 2 % 2) (k % 2) d s1 s2 s3 (omega arith) (omega arith) (omega arith) hd h1 h2 h3 in
         let word : ℕ → ℕ = λ n. word_of (1 + n) (d ∷ s1 ∷ s2 ∷ s3 ∷ []) in
         ap (λ (n : ℕ). word n / 2 ^ (0 + 5 * i) % 32) (sym e) ∙ one_of f i j
       where
         one_of : {w long subtract high : ℕ} → IsMultiply w long subtract high d s1 s2 s3 → (i : ℕ) → i < 4 → w / 2 ^ (0 + 5 * i) % 32 ≡ get_or (d ∷ s1 ∷ s2 ∷ s3 ∷ []) i 0
-        one_of f zero j = f.in-rd
-        one_of f (suc zero) j = f.in-rs1
-        one_of f (suc (suc zero)) j = f.in-rs2
-        one_of f (suc (suc (suc zero))) j = f.in-rs3
+        one_of f zero j = f.in_rd
+        one_of f (suc zero) j = f.in_rs1
+        one_of f (suc (suc zero)) j = f.in_rs2
+        one_of f (suc (suc (suc zero))) j = f.in_rs3
         one_of f (suc (suc (suc (suc i)))) j = absurd (omega arith)
 
 short_told : (code : ℕ) → code < 16 → Told (9 + code)
@@ -168,9 +168,9 @@ short_told code h vs b =
     by_fields (9 + code) (omega arith) (omega arith) (word_of (9 + code) vs) vs b (λ i j. one_of f i (omega arith))
   where
     one_of : {w : ℕ} → IsShort w code (get_or vs 0 0) (get_or vs 1 0) (get_or vs 2 0) → (i : ℕ) → i < 3 → w / 2 ^ (0 + 5 * i) % 32 ≡ get_or vs i 0
-    one_of f zero j = f.in-rd
-    one_of f (suc zero) j = f.in-rs1
-    one_of f (suc (suc zero)) j = f.in-rs2
+    one_of f zero j = f.in_rd
+    one_of f (suc zero) j = f.in_rs1
+    one_of f (suc (suc zero)) j = f.in_rs2
     one_of f (suc (suc (suc i))) j = absurd (omega arith)
 
 pub numbers_told : (row : ℕ) → row < 25 → Told row

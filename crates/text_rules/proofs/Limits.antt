@@ -64,19 +64,19 @@ line_word l e =
 -- what reading answers is a refusal behind at most 64 good lines, or at most 64 words below 2^25
 module _ (P : ReadText → Type 0) (refused : (number good : ℕ) → good ≤ 64 → P (refused_text number good))
     (accepted : (words : List ℕ) → length words ≤ 64 → AllBelow (2 ^ 25) words → P (accepted_text words)) where
-  from-here : (left : ℕ) (words l : List ℕ) → length words + left ≤ 64 → AllBelow (2 ^ 25) words → P (read_from left words l)
+  from_here : (left : ℕ) (words l : List ℕ) → length words + left ≤ 64 → AllBelow (2 ^ 25) words → P (read_from left words l)
   unfolding read_from
-  from-here zero words l h b =
+  from_here zero words l h b =
       apart _ _ P _ _ (λ _. accepted words (omega arith) b) (λ _. subst P ends (refused LINES (length words) (omega arith)))
-  from-here (suc left) words l h b =
+  from_here (suc left) words l h b =
       apart _ _ P _ _ (λ _. accepted words (omega arith) b) (λ _.
       apart _ _ P _ _ (λ _. refused (line_of l).refusal (length words) (omega arith)) (λ good.
       let zero-refusal : (line_of l).refusal ≡ 0 = eqb-true _ _ (not-false _ good) in
-      subst P ends (from-here left (words ++ (line_of l).word ∷ []) (drop (line_of l).size l) (simp length-append (omega arith))
+      subst P ends (from_here left (words ++ (line_of l).word ∷ []) (drop (line_of l).size l) (simp length-append (omega arith))
       (all_append _ words ((line_of l).word ∷ []) b (line_word l zero-refusal, tt)))))
 
   pub every_answer : (l : List ℕ) → P (read_text_of l)
-  every_answer l = from-here most_lines [] l (lit≤ tt) tt
+  every_answer l = from_here most_lines [] l (lit≤ tt) tt
 
 -- the words that a text is read as
 abbrev pub words_read : ReadText → List ℕ

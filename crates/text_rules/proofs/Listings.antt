@@ -43,7 +43,7 @@ listed (w ∷ ws) h =
     let row = row_giving w in
     let many = rest.many in
     let first : WrittenLine
-    = record { row = row; numbers = numbers_in w (form_at row); a-row = row_there w h.0; below = numbers_below w row (row_there w h.0) } in
+    = record { row = row; numbers = numbers_in w (form_at row); a_row = row_there w h.0; below = numbers_below w row (row_there w h.0) } in
     record {
       lines = first ∷ rest.lines;
       text = ap (λ (l : List ℕ). bytes_of first ++ l) rest.text;
@@ -78,7 +78,7 @@ listing_again ws text p is = ap (λ (l : List ℕ). listing_of (words_read (read
 own_bytes : (x : WrittenLine) → (x.row ≡ 25 → ⊥) → bytes_of x ≡ line_of_word (word_of_line x)
 unfolding line_of_word
 own_bytes x isnt =
-    let a-row = x.a-row in
+    let a_row = x.a_row in
     let row : x.row < 25 = by (ltb x.row 25) refl in
     let own = own_line x.row x.numbers row x.below in
     let w = word_of_line x in
@@ -86,16 +86,16 @@ own_bytes x isnt =
   where
     by : (t : Bool) → ltb x.row 25 ≡ t → x.row < 25
     by true e = ltb-true x.row 25 e
-    by false e = let more = ltb-false x.row 25 e in let less = x.a-row in absurd (isnt (omega arith))
+    by false e = let more = ltb-false x.row 25 e in let less = x.a_row in absurd (isnt (omega arith))
 
 name_of_row : (x : WrittenLine) (rest : List ℕ) → x.row ≡ 25 → name_in (bytes_of x ++ rest) ≡ word_form.name
-name_of_row x rest e = stated_name x.row x.numbers rest x.a-row ∙ ap (λ (r : ℕ). (form_at r).name) e
+name_of_row x rest e = stated_name x.row x.numbers rest x.a_row ∙ ap (λ (r : ℕ). (form_at r).name) e
 
 -- A line that is accepted and whose name is not `.word` is the line of its word.
 pub its_own_line : (l : List ℕ) → (line_of l).refusal ≡ 0 → (name_in l ≡ word_form.name → ⊥) → take (line_of l).size l ≡ line_of_word (line_of l).word
 its_own_line l e isnt =
     let s = accepted_line_lem l e in
-    let x : WrittenLine = record { row = s.row; numbers = s.numbers; a-row = s.a-row; below = s.below } in
+    let x : WrittenLine = record { row = s.row; numbers = s.numbers; a_row = s.a_row; below = s.below } in
     let rest = drop (line_of l).size l in
     ap (λ (y : Line). take y.size l) s.answer ∙ ap (take (length (bytes_of x))) s.written ∙ take-append_seam (bytes_of x) rest
     ∙ own_bytes x (λ row. isnt (ap name_in s.written ∙ name_of_row x rest row))
@@ -111,7 +111,7 @@ same_line l m e f not-l not-m same = its_own_line l e not-l ∙ ap line_of_word 
 -- a line begins at the front of a text, and behind each newline
 pub data BeginsLine : List ℕ → Type 0 where
   in_front : BeginsLine []
-  behind-newline : (front : List ℕ) → BeginsLine (front ++ NEWLINE ∷ [])
+  behind_newline : (front : List ℕ) → BeginsLine (front ++ NEWLINE ∷ [])
 
 -- wherever a line begins, its name is not `.word`
 abbrev pub NoWordLine : List ℕ → Type 0
@@ -121,7 +121,7 @@ line_begins : (front : List ℕ) (x : WrittenLine) → BeginsLine (front ++ byte
 line_begins front x =
     let f = form_at x.row in
     let body = f.name ++ numbers_text f.notation x.numbers in
-    subst BeginsLine (append_assoc front body (NEWLINE ∷ [])) (behind-newline (front ++ body))
+    subst BeginsLine (append_assoc front body (NEWLINE ∷ [])) (behind_newline (front ++ body))
 
 own_lines : (front : List ℕ) (xs : List WrittenLine) → BeginsLine front
     → ((before rest : List ℕ) → front ++ text_of xs ≡ before ++ rest → BeginsLine before → name_in rest ≡ word_form.name → ⊥)

@@ -63,7 +63,7 @@ longest_written row vs h below =
 pub longest_line : (l : List ℕ) → (line_of l).refusal ≡ 0 → (line_of l).size ≤ 19
 longest_line l e =
     let s = accepted_line_lem l e in
-    omega (arith, ap (λ (x : Line). x.size) s.answer, longest_written s.row s.numbers s.a-row s.below)
+    omega (arith, ap (λ (x : Line). x.size) s.answer, longest_written s.row s.numbers s.a_row s.below)
 
 -- ---- listings
 

@@ -24,7 +24,7 @@ use Rattle.text_rules.proofs.Reading.{at_end, one_too_many, refused_there, goes_
 pub record WrittenLine : Type 0 where
   pub row : ℕ
   pub numbers : List ℕ
-  pub a-row : row < 26
+  pub a_row : row < 26
   pub below : Below (form_at row).operands numbers
 
 abbrev pub bytes_of : WrittenLine → List ℕ
@@ -44,7 +44,7 @@ words_of lines = map word_of_line lines
 
 read_line : (x : WrittenLine) (left : ℕ) (words rest : List ℕ) → read_from (suc left) words (bytes_of x ++ rest) ≡ read_from left (words ++ word_of_line x ∷ []) rest
 read_line x left words rest =
-    let answer = stated_line x.row x.numbers rest x.a-row x.below in
+    let answer = stated_line x.row x.numbers rest x.a_row x.below in
     goes_on_lem left words (bytes_of x ++ rest) (ap (λ (y : Line). y.refusal) answer)
     ∙ ap (λ (y : Line). read_from left (words ++ y.word ∷ []) (drop y.size (bytes_of x ++ rest))) answer
     ∙ ap (read_from left (words ++ word_of_line x ∷ [])) (drop-append_seam (bytes_of x) rest)
@@ -82,7 +82,7 @@ unfolding flat_map
 one_more left text e rest =
     let s = accepted_line_lem text e in
     let few = rest.few in
-    let x : WrittenLine = record { row = s.row; numbers = s.numbers; a-row = s.a-row; below = s.below } in
+    let x : WrittenLine = record { row = s.row; numbers = s.numbers; a_row = s.a_row; below = s.below } in
     record { lines = x ∷ rest.lines; few = omega arith; whole = s.written ∙ ap (λ (r : List ℕ). bytes_of x ++ r) rest.whole }
 
 none_left : (words text : List ℕ) → (read_from zero words text).refusal ≡ 0 → Lines zero text

@@ -38,19 +38,19 @@ module _ (w high code third second first low : ℕ) (whole : w ≡ 0x1800000 + h
   none_named : (0x1800000 + code * 0x8000 ≡ w → (high ≡ 0) × (low ≡ 0)) × (high ≡ 0 → low ≡ 0 → 0x1800000 + code * 0x8000 ≡ w)
   none_named = (λ e. (omega arith, omega arith), λ a b. omega arith)
 
-  two-named : (0x1800000 + code * 0x8000 + first * 2 ^ 0 + second * 2 ^ 5 ≡ w → (high ≡ 0) × (third ≡ 0))
+  two_named : (0x1800000 + code * 0x8000 + first * 2 ^ 0 + second * 2 ^ 5 ≡ w → (high ≡ 0) × (third ≡ 0))
       × (high ≡ 0 → third ≡ 0 → 0x1800000 + code * 0x8000 + first * 2 ^ 0 + second * 2 ^ 5 ≡ w)
-  two-named = (λ e. (omega arith, omega arith), λ a b. omega arith)
+  two_named = (λ e. (omega arith, omega arith), λ a b. omega arith)
 
-  three-named : (0x1800000 + code * 0x8000 + first * 2 ^ 0 + second * 2 ^ 5 + third * 2 ^ 10 ≡ w → high ≡ 0)
+  three_named : (0x1800000 + code * 0x8000 + first * 2 ^ 0 + second * 2 ^ 5 + third * 2 ^ 10 ≡ w → high ≡ 0)
       × (high ≡ 0 → 0x1800000 + code * 0x8000 + first * 2 ^ 0 + second * 2 ^ 5 + third * 2 ^ 10 ≡ w)
-  three-named = (λ e. omega arith, λ a. omega arith)
+  three_named = (λ e. omega arith, λ a. omega arith)
 
   -- of the third field only what is left over 16
-  some-named : (left : ℕ) → left ≡ third % 16
+  some_named : (left : ℕ) → left ≡ third % 16
       → (0x1800000 + code * 0x8000 + first * 2 ^ 0 + second * 2 ^ 5 + left * 2 ^ 10 ≡ w → (high ≡ 0) × (third < 16))
       × (high ≡ 0 → third < 16 → 0x1800000 + code * 0x8000 + first * 2 ^ 0 + second * 2 ^ 5 + left * 2 ^ 10 ≡ w)
-  some-named left is = (λ e. (omega arith, omega arith), λ a b. omega arith)
+  some_named left is = (λ e. (omega arith, omega arith), λ a b. omega arith)
 
 -- ---- the sixteen short codes
 
@@ -82,9 +82,9 @@ either_fails false t e = absurd (true≢false (sym e))
 
 module _ (w code : ℕ) (above : 0x1800000 ≤ w) (below : w < 2 ^ 25) (is : w / 0x8000 % 16 ≡ code) where
   -- where the word is made again exactly when bits 22..19 and what is left out are zero
-  by-rest : (os : List Operand) (t : Bool) → (made code os w ≡ w → (w / 2 ^ 19 % 16 ≡ 0) × (t ≡ false)) → (w / 2 ^ 19 % 16 ≡ 0 → t ≡ false → made code os w ≡ w)
+  by_rest : (os : List Operand) (t : Bool) → (made code os w ≡ w → (w / 2 ^ 19 % 16 ≡ 0) × (t ≡ false)) → (w / 2 ^ 19 % 16 ≡ 0 → t ≡ false → made code os w ≡ w)
       → eqb (made code os w) w ≡ not (not (eqb (bits_of 22 19 w) 0) || t)
-  by-rest os t f g =
+  by_rest os t f g =
       same_tests (eqb (made code os w) w) (not (not (eqb (bits_of 22 19 w) 0) || t))
       (λ e. let two = f (eqb-true _ _ e) in simp (eq-eqb (bits_of 22 19 w) 0 two.0, two.1) refl)
       (λ e. let two = either_fails (eqb (bits_of 22 19 w) 0) t e in eq-eqb _ _ (g (eqb-true _ _ two.0) two.1))
@@ -92,44 +92,44 @@ module _ (w code : ℕ) (above : 0x1800000 ≤ w) (below : w < 2 ^ 25) (is : w /
   whole : w ≡ 0x1800000 + w / 2 ^ 19 % 16 * 2 ^ 19 + code * 0x8000 + w % 0x8000
   whole = short_fields w above below ∙ ap (λ (c : ℕ). 0x1800000 + w / 2 ^ 19 % 16 * 2 ^ 19 + c * 0x8000 + w % 0x8000) is
 
-  no-operands : eqb (made code [] w) w ≡ not (not (eqb (bits_of 22 19 w) 0) || not (eqb (bits_of 14 0 w) 0))
-  no-operands =
+  no_operands : eqb (made code [] w) w ≡ not (not (eqb (bits_of 22 19 w) 0) || not (eqb (bits_of 14 0 w) 0))
+  no_operands =
       let n = none_named w _ code _ _ _ (w % 0x8000) whole (low_fields w) in
       let low : bits_of 14 0 w ≡ w % 0x8000 = omega arith in
-      by-rest [] (not (eqb (bits_of 14 0 w) 0))
+      by_rest [] (not (eqb (bits_of 14 0 w) 0))
       (λ e. let two = n.0 e in (two.0, ap not (eq-eqb (bits_of 14 0 w) 0 (low ∙ two.1))))
       (λ z e. n.1 z (sym low ∙ eqb-true (bits_of 14 0 w) 0 (not-false _ e)))
 
   two_operands : eqb (made code (rd ∷ rs1 ∷ []) w) w ≡ not (not (eqb (bits_of 22 19 w) 0) || not (eqb (constant_of w) 0))
   two_operands =
-      let n = two-named w _ code _ _ _ (w % 0x8000) whole (low_fields w) in
-      by-rest (rd ∷ rs1 ∷ []) (not (eqb (constant_of w) 0))
+      let n = two_named w _ code _ _ _ (w % 0x8000) whole (low_fields w) in
+      by_rest (rd ∷ rs1 ∷ []) (not (eqb (constant_of w) 0))
       (λ e. let two = n.0 e in (two.0, ap not (eq-eqb (constant_of w) 0 two.1)))
       (λ z e. n.1 z (eqb-true (constant_of w) 0 (not-false _ e)))
 
-  three-operands : eqb (made code (rd ∷ rs1 ∷ rs2 ∷ []) w) w ≡ not (not (eqb (bits_of 22 19 w) 0) || false)
-  three-operands =
-      let n = three-named w _ code _ _ _ (w % 0x8000) whole (low_fields w) in
-      by-rest (rd ∷ rs1 ∷ rs2 ∷ []) false (λ e. (n.0 e, refl)) (λ z e. n.1 z)
+  three_operands : eqb (made code (rd ∷ rs1 ∷ rs2 ∷ []) w) w ≡ not (not (eqb (bits_of 22 19 w) 0) || false)
+  three_operands =
+      let n = three_named w _ code _ _ _ (w % 0x8000) whole (low_fields w) in
+      by_rest (rd ∷ rs1 ∷ rs2 ∷ []) false (λ e. (n.0 e, refl)) (λ z e. n.1 z)
 
-  few-places : eqb (made code (rd ∷ rs1 ∷ places ∷ []) w) w ≡ not (not (eqb (bits_of 22 19 w) 0) || leb 16 (constant_of w))
-  few-places =
+  few_places : eqb (made code (rd ∷ rs1 ∷ places ∷ []) w) w ≡ not (not (eqb (bits_of 22 19 w) 0) || leb 16 (constant_of w))
+  few_places =
       let left : w / 2 ^ 10 % 16 ≡ w / 2 ^ 10 % 32 % 16 = omega arith in
-      let n = some-named w _ code _ _ _ (w % 0x8000) whole (low_fields w) (w / 2 ^ 10 % 16) left in
-      by-rest (rd ∷ rs1 ∷ places ∷ []) (leb 16 (constant_of w))
+      let n = some_named w _ code _ _ _ (w % 0x8000) whole (low_fields w) (w / 2 ^ 10 % 16) left in
+      by_rest (rd ∷ rs1 ∷ places ∷ []) (leb 16 (constant_of w))
       (λ e. let two = n.0 e in (two.0, lt-leb 16 (constant_of w) two.1))
       (λ z e. n.1 z (leb-false 16 (constant_of w) e))
 
-  each-code : eqb (made code (named code) w) w ≡ not (not (eqb (bits_of 22 19 w) 0) || leaves_out code w)
-  each-code = by (eqb code 0) (eqb code 1) (eqb code 3 || eqb code 6 || eqb code 12)
+  each_code : eqb (made code (named code) w) w ≡ not (not (eqb (bits_of 22 19 w) 0) || leaves_out code w)
+  each_code = by (eqb code 0) (eqb code 1) (eqb code 3 || eqb code 6 || eqb code 12)
     where
       by : (nop shrhi two : Bool)
           → eqb (made code (cond nop [] (cond shrhi (rd ∷ rs1 ∷ places ∷ []) (cond two (rd ∷ rs1 ∷ []) (rd ∷ rs1 ∷ rs2 ∷ [])))) w) w
           ≡ not (not (eqb (bits_of 22 19 w) 0) || cond nop (not (eqb (bits_of 14 0 w) 0)) (cond shrhi (leb 16 (constant_of w)) (cond two (not (eqb (constant_of w) 0)) false)))
-      by true shrhi two = no-operands
-      by false true two = few-places
+      by true shrhi two = no_operands
+      by false true two = few_places
       by false false true = two_operands
-      by false false false = three-operands
+      by false false false = three_operands
 
 -- ---- every word
 
@@ -166,7 +166,7 @@ short_given w l u =
     ap (λ (row : ℕ). gives w (form_at row)) (by_bits_above w l)
     ∙ ap (λ (word : ℕ). eqb (put word (form_at (9 + code)).operands (map (number_in w) (form_at (9 + code)).operands)) w) (short_base code small)
     ∙ ap (λ (os : List Operand). eqb (made code os w) w) (short_operands code small)
-    ∙ each-code w code l u refl
+    ∙ each_code w code l u refl
     ∙ sym (simp (eq-eqb (bits_of 24 23 w) 3 (omega arith)) refl)
 
 -- Exactly these words are listed as `.word`.

@@ -16,9 +16,9 @@ use lib.Pow.{pow-add}
 use Rattle.table.specs.Fields.{bits_of, rd_of, rs1_of, rs2_of, rs3_of, index_of, immediate_of, constant_of}
 use Rattle.table.specs.Operation.{Operation, multiply_row, short_rows, operation_of, reads_of, takes_first, takes_second, takes_third}
 use Rattle.table.specs.Operation.Operation.{li, simal, simah, simsl, simsh, slmal, slmah, slmsl, slmsh, nop}
-use Rattle.table.proofs.Rows.{li-word, multiply_word_lem, short-word}
+use Rattle.table.proofs.Rows.{li_word, multiply_word_lem, short_word}
 use Rattle.table.proofs.Theorems.{nop?}
-use Rattle.table.proofs.Assembled.{together, li_word, li-fields, multiply_word, multiply-fields, short_word, short_fields}
+use Rattle.table.proofs.Assembled.{together, li_word, li_fields, multiply_word_lem, multiply_fields, short_word, short_fields}
 use Rattle.text_rules.specs.Forms.{Operand, rd, index, immediate, rs1, rs2, rs3, form_at}
 use Rattle.text_rules.specs.Listing.{put}
 use Rattle.text_rules.proofs.Written.{Below, word_of}
@@ -28,16 +28,16 @@ use Rattle.text_rules.proofs.Rows.{both, every, agree}
 
 pub record IsLi (w d i m : ℕ) : Type 0 where
   pub operation : operation_of w ≡ li
-  pub in-rd : (rd_of w).0 ≡ d
-  pub in-index : index_of w ≡ i
-  pub in-immediate : immediate_of w ≡ m
+  pub in_rd : (rd_of w).0 ≡ d
+  pub in_index : index_of w ≡ i
+  pub in_immediate : immediate_of w ≡ m
 
 -- `li rd index immediate` is a word of li, with its numbers in li's fields.
 pub li_words : (d i m : ℕ) → d < 32 → i < 8 → m < 65536 → IsLi (word_of 0 (d ∷ i ∷ m ∷ [])) d i m
 li_words d i m hd hi hm =
     let e : together (li_word i m d hi hm hd) ≡ word_of 0 (d ∷ i ∷ m ∷ []) = omega arith in
-    let f = li-fields i m d hi hm hd in
-    subst (λ (w : ℕ). IsLi w d i m) e (record { operation = li-word _ refl f.0; in-rd = f.3; in-index = f.1; in-immediate = f.2 })
+    let f = li_fields i m d hi hm hd in
+    subst (λ (w : ℕ). IsLi w d i m) e (record { operation = li_word _ refl f.0; in_rd = f.3; in_index = f.1; in_immediate = f.2 })
 
 -- ---- the multiply family
 
@@ -53,27 +53,27 @@ multiply_operands = agree 8 (λ (k : ℕ). (form_at (1 + k)).operands) (λ (_ : 
 
 pub record IsMultiply (w long subtract high d s1 s2 s3 : ℕ) : Type 0 where
   pub operation : operation_of w ≡ multiply_row (eqb long 1) (eqb subtract 1) (eqb high 1)
-  pub in-rd : (rd_of w).0 ≡ d
-  pub in-rs1 : (rs1_of w).0 ≡ s1
-  pub in-rs2 : (rs2_of w).0 ≡ s2
-  pub in-rs3 : (rs3_of w).0 ≡ s3
+  pub in_rd : (rd_of w).0 ≡ d
+  pub in_rs1 : (rs1_of w).0 ≡ s1
+  pub in_rs2 : (rs2_of w).0 ≡ s2
+  pub in_rs3 : (rs3_of w).0 ≡ s3
 
 module _ (long subtract high d s1 s2 s3 : ℕ) (hl : long < 2) (hs : subtract < 2) (hh : high < 2)
     (hd : d < 32) (h1 : s1 < 32) (h2 : s2 < 32) (h3 : s3 < 32) where
   -- "Bit 22 long, bit 21 subtract, bit 20 high": a line of the multiply family is a word of its row, with its numbers in rd, rs1, rs2 and rs3.
-  pub multiply-words : IsMultiply (word_of (1 + (4 * long + 2 * subtract + high)) (d ∷ s1 ∷ s2 ∷ s3 ∷ [])) long subtract high d s1 s2 s3
-  multiply-words =
+  pub multiply_words : IsMultiply (word_of (1 + (4 * long + 2 * subtract + high)) (d ∷ s1 ∷ s2 ∷ s3 ∷ [])) long subtract high d s1 s2 s3
+  multiply_words =
       let k = 4 * long + 2 * subtract + high in
       let vs = d ∷ s1 ∷ s2 ∷ s3 ∷ [] in
       let small : k < 8 = omega arith in
-      let e : together (multiply_word long subtract high s3 s2 s1 d hl hs hh h3 h2 h1 hd) ≡ put (0x1000000 + k * 0x100000) four vs = omega arith in
-      let f = multiply-fields long subtract high s3 s2 s1 d hl hs hh h3 h2 h1 hd in
+      let e : together (multiply_word_lem long subtract high s3 s2 s1 d hl hs hh h3 h2 h1 hd) ≡ put (0x1000000 + k * 0x100000) four vs = omega arith in
+      let f = multiply_fields long subtract high s3 s2 s1 d hl hs hh h3 h2 h1 hd in
       subst (λ (w : ℕ). IsMultiply w long subtract high d s1 s2 s3) (e ∙ sym (λ i. put (multiply_base k small i) (multiply_operands k small i) vs)) (record {
         operation = multiply_word_lem _ refl f.0 refl f.1 ∙ (λ i. multiply_row (f.2 i) (f.3 i) (f.4 i));
-        in-rd = f.8;
-        in-rs1 = f.7;
-        in-rs2 = f.6;
-        in-rs3 = f.5;
+        in_rd = f.8;
+        in_rs1 = f.7;
+        in_rs2 = f.6;
+        in_rs3 = f.5;
       })
 
 -- ---- numbers side by side in fields of five bits
@@ -144,9 +144,9 @@ up_to_three (a ∷ b ∷ c ∷ d ∷ vs) h = absurd (omega arith)
 
 pub record IsShort (w code d s1 s2 : ℕ) : Type 0 where
   pub operation : operation_of w ≡ get_or short_rows code nop
-  pub in-rd : (rd_of w).0 ≡ d
-  pub in-rs1 : (rs1_of w).0 ≡ s1
-  pub in-rs2 : (rs2_of w).0 ≡ s2
+  pub in_rd : (rd_of w).0 ≡ d
+  pub in_rs1 : (rs1_of w).0 ≡ s1
+  pub in_rs2 : (rs2_of w).0 ≡ s2
   pub in_constant : constant_of w ≡ s2
   pub unused : bits_of 22 19 w ≡ 0
 
@@ -156,10 +156,10 @@ assembled_short code d s1 s2 hc hd h1 h2 =
     let e : together (short_word 0 code s2 s1 d (omega arith) hc h2 h1 hd) ≡ 0x1800000 + code * 0x8000 + packed (d ∷ s1 ∷ s2 ∷ []) * 2 ^ 0 = omega arith in
     let f = short_fields 0 code s2 s1 d (omega arith) hc h2 h1 hd in
     subst (λ (w : ℕ). IsShort w code d s1 s2) e (record {
-      operation = short-word _ refl f.0 refl f.1 ∙ ap (λ (k : ℕ). get_or short_rows k nop) f.2;
-      in-rd = f.6;
-      in-rs1 = f.5;
-      in-rs2 = f.3;
+      operation = short_word _ refl f.0 refl f.1 ∙ ap (λ (k : ℕ). get_or short_rows k nop) f.2;
+      in_rd = f.6;
+      in_rs1 = f.5;
+      in_rs2 = f.3;
       in_constant = f.4;
       unused = omega arith;
     })
@@ -221,7 +221,7 @@ multiply_row_lem k h vs b =
     let e : 4 * (k / 4) + 2 * (k / 2 % 2) + k % 2 ≡ k = omega arith in
     for_listed four (λ (vs : List ℕ). operation_of (word_of (1 + k) vs) ≡ get_or rows (1 + k) nop) (λ vs b.
     ap (λ (j : ℕ). operation_of (word_of (1 + j) (listed four vs))) (sym e)
-    ∙ (multiply-words (k / 4) (k / 2 % 2) (k % 2) _ _ _ _ (omega arith) (omega arith) (omega arith) b.0 b.1.0 b.1.1.0 b.1.1.1.0).operation
+    ∙ (multiply_words (k / 4) (k / 2 % 2) (k % 2) _ _ _ _ (omega arith) (omega arith) (omega arith) b.0 b.1.0 b.1.1.0 b.1.1.1.0).operation
     ∙ bits_choose k h) vs (subst (λ (os : List Operand). Below os vs) (multiply_operands k h) b)
 
 -- The word of every line is of the operation that stands in its row.

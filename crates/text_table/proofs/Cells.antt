@@ -27,10 +27,10 @@ module _ {A : Type 0} (row : A → List ℕ) (width : ℕ) (each : (x : A) → l
       rw later (get_or-append-add (row x) (flat_map row xs) (width * i + j) 0 ∙ in_row xs d i j (le_of_suc-le-suc h) k)
 
   -- how many they are
-  all-rows : (xs : List A) → length (flat_map row xs) ≡ width * length xs
+  all_rows : (xs : List A) → length (flat_map row xs) ≡ width * length xs
   unfolding flat_map
-  all-rows [] = simp unary_clauses refl
-  all-rows (x ∷ xs) = simp unary_clauses (length-append (row x) (flat_map row xs) ∙ omega (arith, each x, all-rows xs))
+  all_rows [] = simp unary_clauses refl
+  all_rows (x ∷ xs) = simp unary_clauses (length-append (row x) (flat_map row xs) ∙ omega (arith, each x, all_rows xs))
 
 -- ---- the operands of a row
 
@@ -65,7 +65,7 @@ row_size_lem f = omega (arith, cells_size 4 f.operands)
 -- it has 286 numbers
 pub table_size : length form_table ≡ 286
 unfolding form_table
-table_size = all-rows row_of 11 row_size_lem every_form
+table_size = all_rows row_of 11 row_size_lem every_form
 
 module _ (row : ℕ) (h : row < 26) where
   cell_in : (j : ℕ) → j < 11 → get_or form_table (11 * row + j) 0 ≡ get_or (row_of (form_at row)) j 0
@@ -73,43 +73,43 @@ module _ (row : ℕ) (h : row < 26) where
   cell_in j k = in_row row_of 11 row_size_lem every_form _ row j h k
 
   -- a row begins with its name's key
-  key-cell : get_or form_table (11 * row) 0 ≡ key_of (form_at row).name
-  key-cell = let start : 11 * row ≡ 11 * row + 0 = omega arith in rw start (cell_in 0 (omega arith))
+  key_cell : get_or form_table (11 * row) 0 ≡ key_of (form_at row).name
+  key_cell = let start : 11 * row ≡ 11 * row + 0 = omega arith in rw start (cell_in 0 (omega arith))
 
   -- behind it is the base of its digits, and then its word
-  pub base-cell : get_or form_table (11 * row + 1) 0 ≡ base_of (form_at row).notation
-  base-cell = cell_in 1 (omega arith)
+  pub base_cell : get_or form_table (11 * row + 1) 0 ≡ base_of (form_at row).notation
+  base_cell = cell_in 1 (omega arith)
 
   pub word_cell : get_or form_table (11 * row + 2) 0 ≡ (form_at row).word
   word_cell = cell_in 2 (omega arith)
 
   module _ (o : ℕ) (k : o < 4) where
     -- then two cells for each operand
-    operand-cell : (i : ℕ) → i < 2 → get_or form_table (11 * row + 3 + 2 * o + i) 0 ≡ get_or (cells_of 1 (drop o (form_at row).operands)) i 0
-    operand-cell i l =
+    operand_cell : (i : ℕ) → i < 2 → get_or form_table (11 * row + 3 + 2 * o + i) 0 ≡ get_or (cells_of 1 (drop o (form_at row).operands)) i 0
+    operand_cell i l =
         let there : 11 * row + 3 + 2 * o + i ≡ 11 * row + suc (suc (suc (2 * o + i))) = omega arith in
         rw there (cell_in (suc (suc (suc (2 * o + i)))) (omega arith) ∙ cells_at 4 (form_at row).operands o i k l)
 
     first_cell : get_or form_table (11 * row + 3 + 2 * o) 0 ≡ get_or (cells_of 1 (drop o (form_at row).operands)) 0 0
-    first_cell = rw (add-zero (11 * row + 3 + 2 * o)) at (operand-cell 0 (omega arith))
+    first_cell = rw (add-zero (11 * row + 3 + 2 * o)) at (operand_cell 0 (omega arith))
 
     -- the first of them is the limit of the operand
-    pub limit-cell : (d : Operand) → o < length (form_at row).operands → get_or form_table (11 * row + 3 + 2 * o) 0 ≡ (get_or (form_at row).operands o d).limit
-    limit-cell d h = first_cell ∙ rw (drop-cons (form_at row).operands o d h)
+    pub limit_cell : (d : Operand) → o < length (form_at row).operands → get_or form_table (11 * row + 3 + 2 * o) 0 ≡ (get_or (form_at row).operands o d).limit
+    limit_cell d h = first_cell ∙ rw (drop-cons (form_at row).operands o d h)
 
     -- or 0 where there is none
     pub no_cell : length (form_at row).operands ≤ o → get_or form_table (11 * row + 3 + 2 * o) 0 ≡ 0
     no_cell h = first_cell ∙ rw (drop_of_length-le (form_at row).operands h)
 
     -- and the second the weight of its lowest bit
-    pub weight-cell : (d : Operand) → o < length (form_at row).operands
+    pub weight_cell : (d : Operand) → o < length (form_at row).operands
         → get_or form_table (11 * row + 3 + 2 * o + 1) 0 ≡ 2 ^ (get_or (form_at row).operands o d).place
-    weight-cell d h = operand-cell 1 (omega arith) ∙ rw (drop-cons (form_at row).operands o d h)
+    weight_cell d h = operand_cell 1 (omega arith) ∙ rw (drop-cons (form_at row).operands o d h)
 
 -- in the table as the code has it
 module _ {table : List ℕ} (e : table ≡ form_table) where
-  pub table-long : length table ≡ 286
-  table-long = ap length e ∙ table_size
+  pub table_long : length table ≡ 286
+  table_long = ap length e ∙ table_size
 
-  pub key-there : (row : ℕ) → row < 26 → get_or table (11 * row) 0 ≡ key_of (form_at row).name
-  key-there row h = ap (λ (l : List ℕ). get_or l (11 * row) 0) e ∙ key-cell row h
+  pub key_there : (row : ℕ) → row < 26 → get_or table (11 * row) 0 ≡ key_of (form_at row).name
+  key_there row h = ap (λ (l : List ℕ). get_or l (11 * row) 0) e ∙ key_cell row h

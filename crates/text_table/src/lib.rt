@@ -1,5 +1,7 @@
 // What readers and writers of text share: the table of forms of program text, and digits.
 
+#![tactic(auto)]
+
 ghost use Rattle.std.specs.Prelude.{◌≡◌};
 ghost use Rattle.text_table.specs.Table.{form_table};
 

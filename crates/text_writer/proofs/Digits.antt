@@ -71,8 +71,8 @@ five_digits v h k =
 
 module _ (v : ℕ) {ds : List ℕ} (digits : digits_for decimal v ≡ ds) (old : List ℕ) (room : length (digits_for decimal v) ≤ length old) where
   -- there is room for so many
-  pub digits-fit : length ds ≤ length old
-  digits-fit = omega (arith, ap length digits)
+  pub digits_fit : length ds ≤ length old
+  digits_fit = omega (arith, ap length digits)
 
-  pub digits-put : Put (digits_for decimal v) (length ds) old (sets old 0 ds)
-  digits-put = rw digits (record { sized = refl; stands = sets-eq ds old 0 (omega (arith, digits-fit)) ∙ ap (λ (n : ℕ). ds ++ drop n old) (zero-add (length ds)) })
+  pub digits_put : Put (digits_for decimal v) (length ds) old (sets old 0 ds)
+  digits_put = rw digits (record { sized = refl; stands = sets-eq ds old 0 (omega (arith, digits_fit)) ∙ ap (λ (n : ℕ). ds ++ drop n old) (zero-add (length ds)) })

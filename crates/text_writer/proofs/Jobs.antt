@@ -21,19 +21,19 @@ filled_long words = omega (arith, length-append words (replicate (64 - length wo
 
 module _ (file : List ℕ) {r : ReadJob} (is : r ≡ read_of file) where
   -- a file that is refused
-  pub file-refused : (out : List ℕ) {answer : Written} → (r.refusal ≡ 0 → ⊥) → answer ≡ written_of r.refusal r.place 0 → (answer, out) ≡ list_job_of file out
+  pub file_refused : (out : List ℕ) {answer : Written} → (r.refusal ≡ 0 → ⊥) → answer ≡ written_of r.refusal r.place 0 → (answer, out) ≡ list_job_of file out
   unfolding list_job_of
-  file-refused out isnt e = rw (e, ← is) (stops _ _ (denied (ne_eqb r.refusal 0 isnt)))
+  file_refused out isnt e = rw (e, ← is) (stops _ _ (denied (ne_eqb r.refusal 0 isnt)))
 
   module _ (good : r.refusal ≡ 0) where
     -- its lines stand within the 64 words
-    pub lines-within : r.job.program.n.0 ≤ length r.job.program.words
-    lines-within =
+    pub lines_within : r.job.program.n.0 ≤ length r.job.program.words
+    lines_within =
         let a = accepted (edition_in file) file (sym (ap (λ (x : ReadJob). x.refusal) is) ∙ good) in
         let job = is ∙ read (edition_in file) file a in
         rw job (filled_long (words_in (two_at file 0) (drop (instructions_at (edition_in file)) file)))
 
     -- they are listed
-    pub file-listed : (out : List ℕ) {x : Written × List ℕ} → x ≡ list_of (lines_of r.job.program) out → x ≡ list_job_of file out
+    pub file_listed : (out : List ℕ) {x : Written × List ℕ} → x ≡ list_of (lines_of r.job.program) out → x ≡ list_job_of file out
     unfolding list_job_of
-    file-listed out e = e ∙ rw (← is) (passes _ _ _ (not_denied (eq-eqb r.refusal 0 good)) ends)
+    file_listed out e = e ∙ rw (← is) (passes _ _ _ (not_denied (eq-eqb r.refusal 0 good)) ends)

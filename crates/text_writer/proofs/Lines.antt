@@ -1,4 +1,4 @@
--- The line of a word: that of its instruction, part by part, or that of `.word`. Carried by `row_giving_lem` of crate `text_rules`, and by `then-put`.
+-- The line of a word: that of its instruction, part by part, or that of `.word`. Carried by `row_giving_lem` of crate `text_rules`, and by `then_put`.
 -- Assumes nothing.
 use Prim.Native.Nat.{ℕ, zero, suc, ◌+◌, ◌-◌, ◌/◌, ◌%◌, ◌^◌, ◌≤◌, ◌<◌}
 use mathlib.Core.Path.{◌≡◌, refl, sym, ap, ◌∙◌}
@@ -25,7 +25,7 @@ use Rattle.text_rules.proofs.Stated.{line_size}
 use Rattle.text_writer.specs.declared.numbers.Numbers.{Numbers}
 use Rattle.text_writer.specs.Numbers.{numbers_of}
 use Rattle.text_writer.specs.Put.{Put, Small}
-use Rattle.text_writer.proofs.Pieces.{put-long, then-put, then-byte}
+use Rattle.text_writer.proofs.Pieces.{put_long, then_put, then_byte}
 
 -- ---- the numbers of a line
 
@@ -52,38 +52,38 @@ numbers_small row h w =
 
 module _ (row : ℕ) (h : row < 25) (numbers old : List ℕ) (room : length (line_text (form_at row) numbers) ≤ length old) where
   -- there is room for its name, its numbers and the newline
-  pub line-room : length (form_at row).name + length (numbers_text decimal numbers) + 1 ≤ length old
-  line-room =
+  pub line_room : length (form_at row).name + length (numbers_text decimal numbers) + 1 ≤ length old
+  line_room =
       omega (arith, line_size (form_at row) numbers, ap (λ (n : Notation). length (numbers_text n numbers)) (in_decimal row h))
 
   module _ {named : List ℕ} {at : ℕ} (name : Put (form_at row).name at old named) where
     -- behind the name
-    pub behind-name : at + length (numbers_text decimal numbers) + 1 ≤ length named
-    behind-name = omega (arith, line-room, name.sized, put-long name (omega (arith, line-room)))
+    pub behind_name_lem : at + length (numbers_text decimal numbers) + 1 ≤ length named
+    behind_name_lem = omega (arith, line_room, name.sized, put_long name (omega (arith, line_room)))
 
     pub numbers_fit : length (numbers_text decimal numbers) ≤ length (mid_of at (length named - at) named)
-    numbers_fit = omega (arith, behind-name, mid_len at (length named) named (le_refl (length named)))
+    numbers_fit = omega (arith, behind_name_lem, mid_len at (length named) named (le_refl (length named)))
 
     module _ {part : List ℕ} {size : ℕ} (put : Put (numbers_text decimal numbers) size (mid_of at (length named - at) named) part) where
       joined : Put ((form_at row).name ++ numbers_text decimal numbers) (at + size) old (put_mid at (length named - at) named part)
-      joined = then-put name (numbers_text decimal numbers) part size put
+      joined = then_put name (numbers_text decimal numbers) part size put
 
       -- the numbers end before the buffer does
-      pub end-within : at + size < length old
-      end-within = omega (arith, line-room, name.sized, put.sized)
+      pub end_within : at + size < length old
+      end_within = omega (arith, line_room, name.sized, put.sized)
 
       -- there is a place for the newline
-      pub newline-fits : at + size < length (put_mid at (length named - at) named part)
-      newline-fits =
+      pub newline_fits : at + size < length (put_mid at (length named - at) named part)
+      newline_fits =
           omega (
             arith,
-            end-within,
-            put-long joined (omega (arith, line-room, length-append (form_at row).name (numbers_text decimal numbers))),
+            end_within,
+            put_long joined (omega (arith, line_room, length-append (form_at row).name (numbers_text decimal numbers))),
           )
 
       -- and with it the line stands
-      pub line-put : Put (line_text (form_at row) numbers) (at + size + 1) old (set (put_mid at (length named - at) named part) (at + size) NEWLINE)
-      line-put = rw (in_decimal row h) (then-byte joined NEWLINE end-within)
+      pub line_put : Put (line_text (form_at row) numbers) (at + size + 1) old (set (put_mid at (length named - at) named part) (at + size) NEWLINE)
+      line_put = rw (in_decimal row h) (then_byte joined NEWLINE end_within)
 
 -- ---- the line of any word
 
@@ -115,36 +115,36 @@ module _ (w row : ℕ) {n : Numbers} (found : n ≡ numbers_of row w) where
   unfolding numbers_of
   taken = rw found (take_at (numbers_in w (form_at row)) _ _ refl)
 
-  pub taken-long : n.count ≡ length (take n.count n.values)
+  pub taken_long : n.count ≡ length (take n.count n.values)
   unfolding numbers_of
-  taken-long = ap (λ (m : Numbers). m.count) found ∙ sym (ap length taken)
+  taken_long = ap (λ (m : Numbers). m.count) found ∙ sym (ap length taken)
 
-  pub few-taken : n.count ≤ length n.values
+  pub few_taken : n.count ≤ length n.values
   unfolding numbers_of
-  few-taken = let numbers = numbers_in w (form_at row) in rw found (omega (arith, length-append numbers (replicate (4 - length numbers) 0)))
+  few_taken = let numbers = numbers_in w (form_at row) in rw found (omega (arith, length-append numbers (replicate (4 - length numbers) 0)))
 
   -- and are small
-  pub small-taken : row < 25 → Small (take n.count n.values)
-  small-taken small = rw taken (numbers_small row small w)
+  pub small_taken : row < 25 → Small (take n.count n.values)
+  small_taken small = rw taken (numbers_small row small w)
 
 -- ---- which of them
 
 module _ (w : ℕ) (h : w < 2 ^ 25) {t : Bool} (test : t ≡ unnamed w) where
   -- no instruction's line gives the word
-  pub unnamed-line : t ≡ true → line_of_word w ≡ line_text word_form (numbers_in w word_form)
+  pub unnamed_line : t ≡ true → line_of_word w ≡ line_text word_form (numbers_in w word_form)
   unfolding line_of_word
-  unnamed-line on = ap (λ (r : ℕ). line_text (form_at r) (numbers_in w (form_at r))) (eqb-true (row_giving w) 25 (unnamed_exactly w h ∙ sym test ∙ on))
+  unnamed_line on = ap (λ (r : ℕ). line_text (form_at r) (numbers_in w (form_at r))) (eqb-true (row_giving w) 25 (unnamed_exactly w h ∙ sym test ∙ on))
 
   -- that of its leading bits does
-  named-row : t ≡ false → row_giving w ≡ row_by_bits w
-  named-row off = by (gives w (form_at (row_by_bits w))) (row_giving_lem w h)
+  named_row : t ≡ false → row_giving w ≡ row_by_bits w
+  named_row off = by (gives w (form_at (row_by_bits w))) (row_giving_lem w h)
     where
       by : (s : Bool) → row_giving w ≡ cond s (row_by_bits w) 25 → row_giving w ≡ row_by_bits w
       by true e = e
       by false e = absurd (eqb-false (row_giving w) 25 (unnamed_exactly w h ∙ sym test ∙ off) e)
 
   -- with its numbers
-  pub named-line : t ≡ false → (row : ℕ) → row ≡ row_by_bits w → {n : Numbers} → n ≡ numbers_of row w → line_of_word w ≡ line_text (form_at row) (take n.count n.values)
+  pub named_line : t ≡ false → (row : ℕ) → row ≡ row_by_bits w → {n : Numbers} → n ≡ numbers_of row w → line_of_word w ≡ line_text (form_at row) (take n.count n.values)
   unfolding line_of_word
-  named-line off row by_bits found =
-      ap (λ (r : ℕ). line_text (form_at r) (numbers_in w (form_at r))) (named-row off ∙ sym by_bits) ∙ ap (line_text (form_at row)) (sym (taken w row found))
+  named_line off row by_bits found =
+      ap (λ (r : ℕ). line_text (form_at r) (numbers_in w (form_at r))) (named_row off ∙ sym by_bits) ∙ ap (line_text (form_at row)) (sym (taken w row found))

@@ -7,7 +7,7 @@ use native.Mathlib.Omega.{arith}
 use borrow.Author.Tests.{eq-eqb, ne_eqb}
 use lib.ListN.{length, get_or, take, drop, length-append}
 use lib.Seq.{take_at}
-use Rattle.buffer.specs.Front.{at_front}
+use Rattle.buffer.specs.Front.{in_front}
 use Rattle.buffer.proofs.Parts.{all_fit}
 use Rattle.table.specs.Refusal.{COUNT, WORD, ROOM, first_bad}
 use Rattle.table.proofs.Decided.{deciding}
@@ -18,7 +18,7 @@ use Rattle.text_rules.proofs.Positional.{each_below}
 use Rattle.text_rules.proofs.Limits.{good_is_below}
 use Rattle.text_rules.proofs.Longest.{longest_program}
 use Rattle.text_writer.specs.Put.{Put}
-use Rattle.text_writer.proofs.Pieces.{SoFar, none_yet, all-put}
+use Rattle.text_writer.proofs.Pieces.{SoFar, none_yet, all_put}
 
 -- ---- good words
 
@@ -37,7 +37,7 @@ no_line words old room = none_yet line_of_word words old room
 
 pub all_lines : {words old out : List ℕ} {at i : ℕ} → SoFar line_of_word words old out at i → length words ≤ i → Put (listing_of words) at old out
 unfolding listing_of
-all_lines so_far h = all-put so_far h
+all_lines so_far h = all_put so_far h
 
 -- ---- the buffer by the answer: unaltered, or with the listing at its front
 
@@ -46,7 +46,7 @@ module _ (words out : List ℕ) {answer : Written} (asked : answer ≡ listed_or
   unfolding list_of
   not_listed h = rw (← asked, ne_eqb _ _ h)
 
-  listed : {new : List ℕ} → answer.refusal ≡ 0 → new ≡ at_front (listing_of words) out → (answer, new) ≡ list_of words out
+  listed : {new : List ℕ} → answer.refusal ≡ 0 → new ≡ in_front (listing_of words) out → (answer, new) ≡ list_of words out
   unfolding list_of
   listed h e = rw (← asked, eq-eqb _ _ h, e)
 
@@ -64,9 +64,9 @@ module _ (words out : List ℕ) where
 
   module _ (few : length words ≤ 64) {bad : ℕ} (first : bad ≡ first_bad words) where
     -- a bad word
-    pub bad-word : {answer : Written} → bad < length words → answer ≡ written_of WORD bad 0 → (answer, out) ≡ list_of words out
+    pub bad_word : {answer : Written} → bad < length words → answer ≡ written_of WORD bad 0 → (answer, out) ≡ list_of words out
     unfolding listed_or_refusal
-    bad-word less e =
+    bad_word less e =
         let there : first_bad words < length words = omega arith in
         refuses WORD bad (λ z. omega arith) e (rw first (search deciding depth 12))
 
@@ -83,14 +83,14 @@ module _ (words out : List ℕ) where
           refuses ROOM 0 (λ z. omega arith) e (search deciding depth 12)
 
       -- it fits, and its bytes are copied from the front of the text
-      pub copied : {new : List ℕ} → size ≤ length out → new ≡ at_front (take (length out) (take size text)) out → (written_of 0 0 size, new) ≡ list_of words out
+      pub copied : {new : List ℕ} → size ≤ length out → new ≡ in_front (take (length out) (take size text)) out → (written_of 0 0 size, new) ≡ list_of words out
       unfolding listed_or_refusal
       copied fits e =
           let h = good in
           let room : length (listing_of words) ≤ length out = omega (arith, whole.sized) in
           let taken : take size text ≡ listing_of words = ap (take size) whole.stands ∙ take_at (listing_of words) _ size (sym whole.sized) in
           listed words out (rw whole.sized (search deciding depth 12)) refl
-          (e ∙ ap (λ (l : List ℕ). at_front (take (length out) l) out) taken ∙ all_fit (listing_of words) out room)
+          (e ∙ ap (λ (l : List ℕ). in_front (take (length out) l) out) taken ∙ all_fit (listing_of words) out room)
 
 -- the bytes of a text that was put are within the buffer
 pub put_within : {p old text : List ℕ} {size : ℕ} → Put p size old text → size ≤ length text

@@ -13,9 +13,9 @@ use Rattle.text_rules.specs.Forms.{form_at}
 use Rattle.text_rules.proofs.Positional.{AllBelow, each_below, every_below, snoc}
 use Rattle.text_rules.proofs.Rows.{every, agree}
 use Rattle.text_table.specs.Table.{key_of, form_table}
-use Rattle.text_table.proofs.Cells.{key-there}
+use Rattle.text_table.proofs.Cells.{key_there}
 use Rattle.text_writer.specs.Name.{size_by_key}
-use Rattle.text_writer.proofs.Backwards.{one-back}
+use Rattle.text_writer.proofs.Backwards.{one_back}
 
 -- ---- in the table
 
@@ -33,12 +33,12 @@ name_bytes row h = every_below 256 (form_at row).name (bytes_there row h)
 -- in the table as the code has it
 module _ {table : List ℕ} (e : table ≡ form_table) (row : ℕ) (h : row < 26) where
   -- the size that is found by the key there
-  pub size-there : {size : ℕ} → size ≡ size_by_key (get_or table (11 * row) 0) → size ≡ length (form_at row).name
-  size-there q = q ∙ ap size_by_key (key-there e row h) ∙ sized row h
+  pub size_there : {size : ℕ} → size ≡ size_by_key (get_or table (11 * row) 0) → size ≡ length (form_at row).name
+  size_there q = q ∙ ap size_by_key (key_there e row h) ∙ sized row h
 
   -- all of the name is left, and its key is there
   pub all_left : (size : ℕ) → size ≡ length (form_at row).name → get_or table (11 * row) 0 ≡ key_of (take size (form_at row).name)
-  all_left size q = key-there e row h ∙ ap key_of (sym (take_all size (form_at row).name (omega arith)))
+  all_left size q = key_there e row h ∙ ap key_of (sym (take_all size (form_at row).name (omega arith)))
 
 -- ---- from the last byte back
 
@@ -53,14 +53,14 @@ module _ (name : List ℕ) (bytes : AllBelow 256 name) (i rest : ℕ) (some : 0 
   small = each_below 256 name bytes (i - 1) (omega arith)
 
   -- the last byte of what is left of a name
-  left-apart : take i name ≡ take (i - 1) name ++ (rest % 256) ∷ []
-  left-apart = let same : rest % 256 ≡ get_or name (i - 1) 0 = omega (arith, split, small) in rw same apart
+  left_apart : take i name ≡ take (i - 1) name ++ (rest % 256) ∷ []
+  left_apart = let same : rest % 256 ≡ get_or name (i - 1) 0 = omega (arith, split, small) in rw same apart
 
   -- the key of what is before it
-  pub less-left : rest / 256 ≡ key_of (take (i - 1) name)
-  less-left = omega (arith, split, small)
+  pub less_left : rest / 256 ≡ key_of (take (i - 1) name)
+  less_left = omega (arith, split, small)
 
   -- and that byte stored
-  pub byte-back : (old out : List ℕ) → length name ≤ length old → out ≡ from_start i (drop i name) old
+  pub byte_back : (old out : List ℕ) → length name ≤ length old → out ≡ from_start i (drop i name) old
       → set out (i - 1) (rest % 256) ≡ from_start (i - 1) (drop (i - 1) name) old
-  byte-back old out room e = one-back name i some within (take (i - 1) name) (rest % 256) left-apart old out room e
+  byte_back old out room e = one_back name i some within (take (i - 1) name) (rest % 256) left_apart old out room e

@@ -1,4 +1,4 @@
--- The numbers that a word has for the operands of a row, one at a time. Carried by `one-filled`: a number stored behind those that are there.
+-- The numbers that a word has for the operands of a row, one at a time. Carried by `one_filled`: a number stored behind those that are there.
 -- Assumes nothing.
 use Prim.Native.Nat.{ℕ, ◌+◌, ◌*◌, ◌/◌, ◌%◌, ◌^◌, ◌≤◌, ◌<◌}
 use mathlib.Core.Path.{◌≡◌, refl, sym, ap, ◌∙◌}
@@ -12,12 +12,12 @@ use lib.Dec.{ltb, eqb}
 use lib.ListN.{length, get_or, take, set, replicate, length-map}
 use lib.Seq.{take-suc, take_all, length-take-le}
 use Rattle.job_rules.specs.Read.{filled}
-use Rattle.job_rules.proofs.Pieces.{one-filled}
+use Rattle.job_rules.proofs.Pieces.{one_filled}
 use Rattle.text_rules.specs.Forms.{Operand, form_at}
 use Rattle.text_rules.specs.Listing.{number_in, numbers_in}
 use Rattle.text_rules.proofs.Rows.{every, at_place, agree, sound}
 use Rattle.text_table.specs.Table.{form_table}
-use Rattle.text_table.proofs.Cells.{table-long}
+use Rattle.text_table.proofs.Cells.{table_long}
 use Rattle.text_table.proofs.Operands.{no_operand, ops_of, op_at, CellOf}
 use Rattle.text_table.proofs.Operands as cells
 use Rattle.text_writer.specs.Numbers.{numbers_of}
@@ -34,23 +34,23 @@ all_within = agree 26 (λ (row : ℕ). every within (ops_of row)) (λ (_ : ℕ).
 -- ---- a number more, of any operands
 
 module _ (os : List Operand) (w count : ℕ) (d : Operand) (h : count < length os) where
-  next-stored : (values : List ℕ) → count < 4 → values ≡ filled 4 0 (map (number_in w) (take count os))
+  next_stored : (values : List ℕ) → count < 4 → values ≡ filled 4 0 (map (number_in w) (take count os))
       → set values count (number_in w (get_or os count d)) ≡ filled 4 0 (map (number_in w) (take (count + 1) os))
-  next-stored values k e =
+  next_stored values k e =
       let l = map (number_in w) (take count os) in
       let v = number_in w (get_or os count d) in
       let n : length l ≡ count = length-map (take count os) (number_in w) ∙ length-take-le count os (omega arith) in
       let more : map (number_in w) (take (count + 1) os) ≡ l ++ v ∷ [] = rw (add-one, take-suc os count d h) (map-append (number_in w) (take count os) (get_or os count d ∷ [])) in
-      rw (e, more) (ap (λ (j : ℕ). set (filled 4 0 l) j v) (sym n) ∙ one-filled 4 0 v l (omega arith))
+      rw (e, more) (ap (λ (j : ℕ). set (filled 4 0 l) j v) (sym n) ∙ one_filled 4 0 v l (omega arith))
 
 -- ---- the numbers before an operand
 
 -- they are stored
 pub record NumbersSoFar (table : List ℕ) (row w : ℕ) (values : List ℕ) (count cell : ℕ) : Type 0 where
-  pub the-table : table ≡ form_table
+  pub the_table : table ≡ form_table
   pub long : length table ≡ 286
-  pub a-row : row < 26
-  pub cell-of : cell ≡ 11 * row + 3 + 2 * count
+  pub a_row : row < 26
+  pub cell_of : cell ≡ 11 * row + 3 + 2 * count
   pub few : count ≤ length (form_at row).operands
   pub fewer : count ≤ 4
   pub stored : values ≡ filled 4 0 (map (number_in w) (take count (form_at row).operands))
@@ -58,10 +58,10 @@ pub record NumbersSoFar (table : List ℕ) (row w : ℕ) (values : List ℕ) (co
 -- before the first operand
 pub none_so_far : {table : List ℕ} → table ≡ form_table → (row : ℕ) → row < 26 → (w : ℕ) → NumbersSoFar table row w (replicate 4 0) 0 (11 * row + 3)
 none_so_far e row h w = record {
-  the-table = e;
-  long = table-long e;
-  a-row = h;
-  cell-of = omega arith;
+  the_table = e;
+  long = table_long e;
+  a_row = h;
+  cell_of = omega arith;
   few = omega arith;
   fewer = omega arith;
   stored = refl;
@@ -78,16 +78,16 @@ module _ {table : List ℕ} {row w : ℕ} {values : List ℕ} {count cell : ℕ}
       λ i. record { values = all i; count = as_many i }
 
   -- the cells have ended
-  pub row-ended : 4 ≤ count → record { values = values; count = count } ≡ numbers_of row w
-  row-ended k = all_found (omega (arith, (sound row so_far.a-row).few))
+  pub row_ended : 4 ≤ count → record { values = values; count = count } ≡ numbers_of row w
+  row_ended k = all_found (omega (arith, (sound row so_far.a_row).few))
 
   module _ (k : count < 4) where
     there : CellOf table row count cell
-    there = record { the-table = so_far.the-table; a-row = so_far.a-row; inside = k; cell-of = so_far.cell-of }
+    there = record { the_table = so_far.the_table; a_row = so_far.a_row; inside = k; cell_of = so_far.cell_of }
 
     -- the cells of the operand are within the table
-    pub cell-within : cell + 1 < length table
-    cell-within = omega (arith, so_far.cell-of, so_far.long, so_far.a-row)
+    pub cell_within : cell + 1 < length table
+    cell_within = omega (arith, so_far.cell_of, so_far.long, so_far.a_row)
 
     -- a cell that is 0
     pub zero_ended : not (eqb (get_or table cell 0) 0) ≡ false → record { values = values; count = count } ≡ numbers_of row w
@@ -102,14 +102,14 @@ module _ {table : List ℕ} {row w : ℕ} {values : List ℕ} {count cell : ℕ}
       weight_is = cells.weight_is there on
 
       -- its limit and its weight are above 0 and fit
-      pub limit-fits : (0 < get_or table cell 0) × (get_or table cell 0 ≤ 2 ^ 25)
-      limit-fits = cells.limit-within there on
+      pub limit_fits : (0 < get_or table cell 0) × (get_or table cell 0 ≤ 2 ^ 25)
+      limit_fits = cells.limit_within there on
 
-      pub some-weight : 0 < get_or table (cell + 1) 0
-      some-weight = rw weight_is (one-le-pow (op_at row count).place 2 (omega arith))
+      pub some_weight : 0 < get_or table (cell + 1) 0
+      some_weight = rw weight_is (one-le-pow (op_at row count).place 2 (omega arith))
 
-      pub weight-fits : get_or table (cell + 1) 0 < 2 ^ 25
-      weight-fits = rw weight_is (ltb-true _ _ (at_place within (ops_of row) no_operand (all_within row so_far.a-row) count one_more))
+      pub weight_fits : get_or table (cell + 1) 0 < 2 ^ 25
+      weight_fits = rw weight_is (ltb-true _ _ (at_place within (ops_of row) no_operand (all_within row so_far.a_row) count one_more))
 
       -- its number
       abbrev pub number : ℕ
@@ -119,13 +119,13 @@ module _ {table : List ℕ} {row w : ℕ} {values : List ℕ} {count cell : ℕ}
       number_is = rw (cells.limit_is there on, weight_is)
 
       -- one number more
-      pub operand-more : NumbersSoFar table row w (set values count number) (count + 1) (cell + 2)
-      operand-more = record {
-        the-table = so_far.the-table;
+      pub operand_more : NumbersSoFar table row w (set values count number) (count + 1) (cell + 2)
+      operand_more = record {
+        the_table = so_far.the_table;
         long = so_far.long;
-        a-row = so_far.a-row;
-        cell-of = omega (arith, so_far.cell-of);
+        a_row = so_far.a_row;
+        cell_of = omega (arith, so_far.cell_of);
         few = omega (arith, one_more);
         fewer = omega arith;
-        stored = rw number_is (next-stored (ops_of row) w count no_operand one_more values k so_far.stored);
+        stored = rw number_is (next_stored (ops_of row) w count no_operand one_more values k so_far.stored);
       }

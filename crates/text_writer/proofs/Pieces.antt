@@ -1,4 +1,4 @@
--- A text of pieces, one behind another: what stands of it, and a piece more. Carried by `then-front`: what is put at the front of the part behind a text stands behind it.
+-- A text of pieces, one behind another: what stands of it, and a piece more. Carried by `then_front`: what is put at the front of the part behind a text stands behind it.
 -- Assumes nothing.
 use Prim.Native.Nat.{ℕ, ◌+◌, ◌-◌, ◌≤◌, ◌<◌}
 use mathlib.Core.Path.{◌≡◌, refl, sym, ap, ◌∙◌}
@@ -9,8 +9,8 @@ use native.Mathlib.Numerals.{add-one}
 use borrow.Rule.Slice.PartMut.{mid_of, put_mid, mid_len}
 use lib.ListN.{length, get_or, take, drop, set, length-set, length-append, length-drop, take-append-drop}
 use lib.Seq.{take-suc, take_all, append_snoc}
-use Rattle.buffer.proofs.Parts.{then-front, then-stored}
-use Rattle.job_rules.proofs.Pieces.{pieces-join}
+use Rattle.buffer.proofs.Parts.{then_front, then_stored}
+use Rattle.job_rules.proofs.Pieces.{pieces_join}
 use Rattle.text_rules.specs.Line.{SPACE}
 use Rattle.text_rules.specs.Number.{digits_for}
 use Rattle.text_rules.specs.Number.Notation.{decimal}
@@ -20,21 +20,21 @@ use Rattle.text_writer.specs.Put.{Put}
 
 module _ {p old out : List ℕ} {at : ℕ} (front : Put p at old out) where
   -- where it fits, the buffer is as long as before
-  pub put-long : length p ≤ length old → length out ≡ length old
-  put-long fits = ap length front.stands ∙ omega (arith, length-append p (drop (length p) old), length-drop (length p) old)
+  pub put_long : length p ≤ length old → length out ≡ length old
+  put_long fits = ap length front.stands ∙ omega (arith, length-append p (drop (length p) old), length-drop (length p) old)
 
   -- a text put behind it
-  pub then-put : (q part : List ℕ) (size : ℕ) → Put q size (mid_of at (length out - at) out) part → Put (p ++ q) (at + size) old (put_mid at (length out - at) out part)
-  then-put q part size more = record {
+  pub then_put : (q part : List ℕ) (size : ℕ) → Put q size (mid_of at (length out - at) out) part → Put (p ++ q) (at + size) old (put_mid at (length out - at) out part)
+  then_put q part size more = record {
     sized = omega (arith, front.sized, more.sized, length-append p q);
-    stands = then-front at p q old out part (sym front.sized) front.stands more.stands;
+    stands = then_front at p q old out part (sym front.sized) front.stands more.stands;
   }
 
   -- a byte stored behind it
-  pub then-byte : (b : ℕ) → at < length old → Put (p ++ b ∷ []) (at + 1) old (set out at b)
-  then-byte b room = record {
+  pub then_byte : (b : ℕ) → at < length old → Put (p ++ b ∷ []) (at + 1) old (set out at b)
+  then_byte b room = record {
     sized = omega (arith, front.sized, length-append p (b ∷ []));
-    stands = then-stored at b p old out (sym front.sized) room front.stands;
+    stands = then_stored at b p old out (sym front.sized) room front.stands;
   }
 
 -- ---- pieces
@@ -42,7 +42,7 @@ module _ {p old out : List ℕ} {at : ℕ} (front : Put p at old out) where
 -- those before a place, and those from it on
 cut_long : {A : Type 0} (text : A → List ℕ) (xs : List A) (i : ℕ) → length (flat_map text (take i xs)) + length (flat_map text (drop i xs)) ≡ length (flat_map text xs)
 cut_long text xs i =
-    sym (length-append (flat_map text (take i xs)) (flat_map text (drop i xs))) ∙ ap length (sym (pieces-join text (take i xs) (drop i xs)))
+    sym (length-append (flat_map text (take i xs)) (flat_map text (drop i xs))) ∙ ap length (sym (pieces_join text (take i xs) (drop i xs)))
     ∙ ap (λ l. length (flat_map text l)) (take-append-drop i xs)
 
 module _ {A : Type 0} (text : A → List ℕ) (xs : List A) (d : A) (i : ℕ) (h : i < length xs) where
@@ -50,7 +50,7 @@ module _ {A : Type 0} (text : A → List ℕ) (xs : List A) (d : A) (i : ℕ) (h
   unfolding flat_map
   one_more =
       rw (add-one, take-suc xs i d h)
-      (pieces-join text (take i xs) (get_or xs i d ∷ []) ∙ ap (λ (l : List ℕ). flat_map text (take i xs) ++ l) (append-nil (text (get_or xs i d))))
+      (pieces_join text (take i xs) (get_or xs i d ∷ []) ∙ ap (λ (l : List ℕ). flat_map text (take i xs) ++ l) (append-nil (text (get_or xs i d))))
 
   -- where there is room for all, there is room for the next one
   room_for : length (flat_map text (take i xs)) + length (text (get_or xs i d)) ≤ length (flat_map text xs)
@@ -69,12 +69,12 @@ none_yet text xs old room = record { few = omega arith; room = room; put = recor
 
 module _ {A : Type 0} {text : A → List ℕ} {xs : List A} {old out : List ℕ} {at i : ℕ} (so_far : SoFar text xs old out at i) where
   -- behind the last of them
-  pub all-put : length xs ≤ i → Put (flat_map text xs) at old out
-  all-put h = rw (take_all i xs h) at so_far.put
+  pub all_put : length xs ≤ i → Put (flat_map text xs) at old out
+  all_put h = rw (take_all i xs h) at so_far.put
 
   -- the buffer is as long as it was
   pub as_long : length out ≡ length old
-  as_long = put-long so_far.put (omega (arith, so_far.room, cut_long text xs i))
+  as_long = put_long so_far.put (omega (arith, so_far.room, cut_long text xs i))
 
   module _ (h : i < length xs) (d : A) where
     -- the next one fits
@@ -82,16 +82,16 @@ module _ {A : Type 0} {text : A → List ℕ} {xs : List A} {old out : List ℕ}
     fits = omega (arith, so_far.room, room_for text xs d i h, so_far.put.sized, as_long)
 
     -- in the part behind those before it
-    pub fits-behind : length (text (get_or xs i d)) ≤ length (mid_of at (length out - at) out)
-    fits-behind = omega (arith, fits, mid_len at (length out) out (le_refl (length out)))
+    pub fits_behind : length (text (get_or xs i d)) ≤ length (mid_of at (length out - at) out)
+    fits_behind = omega (arith, fits, mid_len at (length out) out (le_refl (length out)))
 
     one_further : {new : List ℕ} {end : ℕ} → Put (flat_map text (take i xs) ++ text (get_or xs i d)) end old new → SoFar text xs old new end (i + 1)
     one_further p = record { few = omega arith; room = so_far.room; put = rw (one_more text xs d i h) p }
 
     -- it is put there
-    pub piece-put : (part : List ℕ) (size : ℕ) → Put (text (get_or xs i d)) size (mid_of at (length out - at) out) part
+    pub piece_put : (part : List ℕ) (size : ℕ) → Put (text (get_or xs i d)) size (mid_of at (length out - at) out) part
         → SoFar text xs old (put_mid at (length out - at) out part) (at + size) (i + 1)
-    piece-put part size more = one_further (then-put so_far.put (text (get_or xs i d)) part size more)
+    piece_put part size more = one_further (then_put so_far.put (text (get_or xs i d)) part size more)
 
 -- ---- numbers, each of them behind a space
 
@@ -103,11 +103,11 @@ module _ {numbers old out : List ℕ} {at i : ℕ} (so_far : SoFar behind_space 
   pub number_fits : at + 1 + length (digits_for decimal (get_or numbers i 0)) ≤ length out
   number_fits = omega (arith, fits so_far h 0)
 
-  pub still-fits : at + 1 + length (digits_for decimal (get_or numbers i 0)) ≤ length (set out at SPACE)
-  still-fits = omega (arith, number_fits, length-set out at SPACE)
+  pub still_fits : at + 1 + length (digits_for decimal (get_or numbers i 0)) ≤ length (set out at SPACE)
+  still_fits = omega (arith, number_fits, length-set out at SPACE)
 
-  pub digits-fit : length (digits_for decimal (get_or numbers i 0)) ≤ length (mid_of (at + 1) (length (set out at SPACE) - (at + 1)) (set out at SPACE))
-  digits-fit = omega (arith, still-fits, mid_len (at + 1) (length (set out at SPACE)) (set out at SPACE) (le_refl (length (set out at SPACE))))
+  pub digits_fit : length (digits_for decimal (get_or numbers i 0)) ≤ length (mid_of (at + 1) (length (set out at SPACE) - (at + 1)) (set out at SPACE))
+  digits_fit = omega (arith, still_fits, mid_len (at + 1) (length (set out at SPACE)) (set out at SPACE) (le_refl (length (set out at SPACE))))
 
   -- a number more
   pub number_put : (part : List ℕ) (size : ℕ)
@@ -115,5 +115,5 @@ module _ {numbers old out : List ℕ} {at i : ℕ} (so_far : SoFar behind_space 
       → SoFar behind_space numbers old (put_mid (at + 1) (length (set out at SPACE) - (at + 1)) (set out at SPACE) part) (at + 1 + size) (i + 1)
   number_put part size more =
       let digits = digits_for decimal (get_or numbers i 0) in
-      let space = then-byte so_far.put SPACE (omega (arith, number_fits, as_long so_far)) in
-      one_further so_far h 0 (rw (append_snoc (flat_map behind_space (take i numbers)) SPACE digits) at (then-put space digits part size more))
+      let space = then_byte so_far.put SPACE (omega (arith, number_fits, as_long so_far)) in
+      one_further so_far h 0 (rw (append_snoc (flat_map behind_space (take i numbers)) SPACE digits) at (then_put space digits part size more))

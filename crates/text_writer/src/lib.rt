@@ -1,5 +1,7 @@
 // The writer of program text: the lines of a program's words, one behind another, at the front of a lent buffer.
 
+#![tactic(auto)]
+
 ghost use Rattle.std.specs.Prelude.{◌≤◌, ◌≡◌, length};
 ghost use Rattle.table.specs.Refusal.{first_bad};
 ghost use Rattle.job_rules.specs.Write.{written_of};

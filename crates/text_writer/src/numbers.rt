@@ -11,7 +11,7 @@ use crate::decimal::put_decimal;
 use text_table::{OPERANDS_AT, WIDTH};
 
 // The numbers of a word for a form, in front of four, and how many there are.
-#[derive(Drop)]
+#[derive(Clone, Copy)]
 pub(crate) struct Numbers {
     pub(crate) values: [u32; 4],
     pub(crate) count: usize,

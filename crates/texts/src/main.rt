@@ -1,5 +1,7 @@
 // For each text file named as an argument: its name on a line, and then `WORDS` with the number of words and these, a line each; or `REFUSED` with the number and the line.
 
+#![tactic(auto)]
+
 use console::arguments::{print_argument, read_argument};
 use console::output::{print, write_number, write_refused_line};
 use libc::STDOUT_FILENO;

@@ -1,5 +1,7 @@
 // Reads a job from standard input, and prints its trace or the number that it is refused with.
 
+#![tactic(auto)]
+
 use console::input::read_input;
 use console::output::print_front;
 use job_reader::BYTES_TO_READ;

@@ -14,9 +14,9 @@ use Rattle.trace_rules.specs.RowOfCycle.{shown_by, shown_of}
 use Rattle.trace_rules.specs.Call.{traced_of}
 
 module _ (u : Unit) (start : ℕ) (buffer : List ℕ) {after : Cycled} (cycled : after ≡ cycled_of u) where
-  pub not-cycled : (after.refusal ≡ 0 → ⊥) → (after, buffer) ≡ traced_of u start buffer
+  pub not_cycled : (after.refusal ≡ 0 → ⊥) → (after, buffer) ≡ traced_of u start buffer
   unfolding cycled_of traced_of
-  not-cycled h = go (well_made_of u) refl (drained_of u) refl
+  not_cycled h = go (well_made_of u) refl (drained_of u) refl
     where
       go : (t : Bool) → well_made_of u ≡ t → (s : Bool) → drained_of u ≡ s → (after, buffer) ≡ traced_of u start buffer
       go false q s p = ap (λ (a : Cycled). (a, buffer)) (cycled ∙ sym (stops _ _ (denied q))) ∙ stops _ _ (denied q)
@@ -29,26 +29,26 @@ module _ (u : Unit) (start : ℕ) (buffer : List ℕ) {after : Cycled} (cycled :
     going : Going u
     going = goes u (sym (ap (λ (c : Cycled). c.refusal) cycled) ∙ ok)
 
-    one-cycle : after ≡ record { refusal = 0; unit = cycle_of u }
-    one-cycle = cycled ∙ going.gone
+    one_cycle : after ≡ record { refusal = 0; unit = cycle_of u }
+    one_cycle = cycled ∙ going.gone
 
-    its-row : row ≡ shown_of u
+    its_row : row ≡ shown_of u
     unfolding cycle_of
-    its-row = said ∙ rw (at-start, one-cycle)
+    its_row = said ∙ rw (at-start, one_cycle)
 
-    put-so : (number, new) ≡ row_at (shown_of u) start buffer
-    put-so = put ∙ ap (λ (r : Row). row_at r start buffer) its-row
+    put_so : (number, new) ≡ row_at (shown_of u) start buffer
+    put_so = put ∙ ap (λ (r : Row). row_at r start buffer) its_row
 
-    pub row-refused : (number ≡ 0 → ⊥) → ◌≡◌ {A = Cycled × List ℕ} (record { refusal = number; unit = u }, new) (traced_of u start buffer)
+    pub row_refused : (number ≡ 0 → ⊥) → ◌≡◌ {A = Cycled × List ℕ} (record { refusal = number; unit = u }, new) (traced_of u start buffer)
     unfolding traced_of
-    row-refused h = go (ltb (length buffer) (start + row_size)) refl
+    row_refused h = go (ltb (length buffer) (start + row_size)) refl
       where
         go : (t : Bool) → ltb (length buffer) (start + row_size) ≡ t → ◌≡◌ {A = Cycled × List ℕ} (record { refusal = number; unit = u }, new) (traced_of u start buffer)
         go true q =
-            let same = put-so ∙ sym (no_room (shown_of u) start buffer (ltb-true _ _ q)) in
+            let same = put_so ∙ sym (no_room (shown_of u) start buffer (ltb-true _ _ q)) in
             (λ i. (record { refusal = (same i).0; unit = u }, (same i).1))
             ∙ passes _ _ _ (not_denied going.made) (passes _ _ _ going.more (stops _ _ q))
-        go false q = absurd (h (ap (λ (z : ℕ × List ℕ). z.0) (put-so ∙ sym (row_fits (shown_of u) start buffer (ltb-false _ _ q)))))
+        go false q = absurd (h (ap (λ (z : ℕ × List ℕ). z.0) (put_so ∙ sym (row_fits (shown_of u) start buffer (ltb-false _ _ q)))))
 
     pub row_put : number ≡ 0 → (after, new) ≡ traced_of u start buffer
     unfolding traced_of
@@ -56,8 +56,8 @@ module _ (u : Unit) (start : ℕ) (buffer : List ℕ) {after : Cycled} (cycled :
       where
         go : (t : Bool) → ltb (length buffer) (start + row_size) ≡ t → (after, new) ≡ traced_of u start buffer
         go true q =
-            let room : number ≡ ROOM = ap (λ (z : ℕ × List ℕ). z.0) (put-so ∙ sym (no_room (shown_of u) start buffer (ltb-true _ _ q))) in
+            let room : number ≡ ROOM = ap (λ (z : ℕ × List ℕ). z.0) (put_so ∙ sym (no_room (shown_of u) start buffer (ltb-true _ _ q))) in
             absurd (omega arith)
         go false q =
-            let same = put-so ∙ sym (row_fits (shown_of u) start buffer (ltb-false _ _ q)) in
-            (λ i. (one-cycle i, (same i).1)) ∙ passes _ _ _ (not_denied going.made) (passes _ _ _ going.more (passes _ _ _ q ends))
+            let same = put_so ∙ sym (row_fits (shown_of u) start buffer (ltb-false _ _ q)) in
+            (λ i. (one_cycle i, (same i).1)) ∙ passes _ _ _ (not_denied going.made) (passes _ _ _ going.more (passes _ _ _ q ends))

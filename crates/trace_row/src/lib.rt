@@ -1,5 +1,7 @@
 // The call that makes a cycle and writes its row.
 
+#![tactic(auto)]
+
 ghost use Rattle.std.specs.Prelude.{◌≡◌};
 ghost use Rattle.trace_rules.specs.Call.{traced_of};
 

@@ -30,9 +30,9 @@ use Rattle.unit_rules.specs.declared.Cycled.{Cycled}
 use Rattle.unit_rules.specs.Cycle.{worked, mark_in}
 use Rattle.unit_rules.specs.Sequence.Call.{row}
 use Rattle.unit_rules.proofs.Positions.{placed_cycle, drained_is, not_drained_gone}
-use Rattle.unit_rules.proofs.WellMade.{well-made-says, last_small}
-use Rattle.unit_rules.proofs.Wired.{not-0}
-use Rattle.unit_rules.proofs.Demand3.{demand3-number, demand3-registers, demand3-cycle-answers, demand3-marks}
+use Rattle.unit_rules.proofs.WellMade.{well_made_says, last_small}
+use Rattle.unit_rules.proofs.Wired.{not_0}
+use Rattle.unit_rules.proofs.Demand3.{demand3_number, demand3_registers, demand3_cycle_answers, demand3_marks}
 use Rattle.trace_rules.proofs.Going.{goes}
 use Rattle.trace_rules.specs.RowOfCycle.{stage_of, writes_to, flag_of, flags_for, flags_of, change_to, change_of, shown_by, shown_of}
 use Rattle.trace_rules.specs.Call.{traced_of}
@@ -51,16 +51,16 @@ pub row_stages : (u : Unit) → well_made_of u ≡ true
     × ((shown_of u).write ≡ stage_of (fetched_in u.program (c - 3))))
 unfolding shown_by cycle_of
 row_stages u made =
-    let h = (well-made-says u made).placed in
+    let h = (well_made_says u made).placed in
     let one-ago : u.cycle ≡ u.cycle + 1 - 1 = omega arith in
     let two-ago : u.cycle - 1 ≡ u.cycle + 1 - 2 = omega arith in
     let three-ago : u.cycle - 2 ≡ u.cycle + 1 - 3 = omega arith in
     let fetched : ℕ → Stage = λ c. stage_of (fetched_in u.program c) in (
       refl,
-      ap stage_of (placed_cycle u h).in-IF/ID,
-      ap stage_of h.in-IF/ID ∙ ap fetched one-ago,
-      ap stage_of h.in-ID/EX ∙ ap fetched two-ago,
-      ap stage_of h.in-EX/WB ∙ ap fetched three-ago,
+      ap stage_of (placed_cycle u h).in_if_id,
+      ap stage_of h.in_if_id ∙ ap fetched one-ago,
+      ap stage_of h.in_id_ex ∙ ap fetched two-ago,
+      ap stage_of h.in_ex_wb ∙ ap fetched three-ago,
     )
 
 -- nothing of the values that ID has read is shown: any others could stand in their place
@@ -75,7 +75,7 @@ pub row_cycle : (u : Unit) → (cycled_of u).refusal ≡ 0 → (shown_of u).cycl
 unfolding shown_by
 row_cycle u e =
     let going = goes u e in
-    let more = leb-false (last_of u.program.n.0) u.cycle (sym (drained_is u (not_drained_gone u going.more) (well-made-says u going.made).placed) ∙ going.more) in
+    let more = leb-false (last_of u.program.n.0) u.cycle (sym (drained_is u (not_drained_gone u going.more) (well_made_says u going.made).placed) ∙ going.more) in
     omega (arith, more, last_small u going.made)
 
 -- ---- the register written, and its new value
@@ -122,7 +122,7 @@ nothing_of edition (EX/WB.Holds i o) e = rw (ap (λ (j : Instruction). j.target)
 pub row_nothing : (u : Unit) → well_made_of u ≡ true → is_nothing (shown_of u).change ≡ writes_nothing u.program.edition (shown_of u).write
 unfolding shown_by
 row_nothing u made =
-    let here = (well-made-says u made).placed.in-EX/WB in
+    let here = (well_made_says u made).placed.in_ex_wb in
     nothing_of u.program.edition u.executed (subst (OfItsWord u.program.edition) (sym here) (fetched_of_its_word u.program (u.cycle - 2)))
 
 -- ---- the flags
@@ -154,28 +154,28 @@ flags_by edition wb (ID/EX.Holds i o) e =
 pub row_flags : (u : Unit) → well_made_of u ≡ true → (shown_of u).flags ≡ flags_shown (shown_of u).execute (shown_of u).change
 unfolding shown_by
 row_flags u made =
-    let here = (well-made-says u made).placed.in-ID/EX in
+    let here = (well_made_says u made).placed.in_id_ex in
     flags_by u.program.edition u.executed u.decoded (subst (OfItsWord u.program.edition) (sym here) (fetched_of_its_word u.program (u.cycle - 1)))
 
 -- "raises no flag and shows `--`": in the second edition, whatever is latched, no row shows that register 0 was written
 module _ (u : Unit) (made : well_made_of u ≡ true) (second : u.program.edition ≡ Two) where
-  pub register-0-not-shown : (p : Pointer) → p.0 ≡ 0 → shows (shown_of u).change p ≡ false
+  pub register_0_not_shown : (p : Pointer) → p.0 ≡ 0 → shows (shown_of u).change p ≡ false
   unfolding shown_by
-  register-0-not-shown p zeroth = sym (shows_of u.executed p) ∙ go u.executed (well-made-says u made).placed.in-EX/WB
+  register_0_not_shown p zeroth = sym (shows_of u.executed p) ∙ go u.executed (well_made_says u made).placed.in_ex_wb
     where
       go : (x : ExWb) → in_executed x ≡ fetched_in u.program (u.cycle - 2) → writes_to x p ≡ false
       go EX/WB.Empty e = refl
-      go (EX/WB.Holds i o) e = not-0 u.program second (u.cycle - 2) i e p zeroth
+      go (EX/WB.Holds i o) e = not_0 u.program second (u.cycle - 2) i e p zeroth
 
   -- a word in WB that names it as its rd shows `--`
-  pub dropped-shows-nothing : (w : ℕ) → (shown_of u).write ≡ In.Holds w → (rd_of w).0 ≡ 0 → is_nothing (shown_of u).change ≡ true
-  dropped-shows-nothing w here zeroth =
+  pub dropped_shows_nothing : (w : ℕ) → (shown_of u).write ≡ In.Holds w → (rd_of w).0 ≡ 0 → is_nothing (shown_of u).change ≡ true
+  dropped_shows_nothing w here zeroth =
       row_nothing u made ∙ ap (writes_nothing u.program.edition) here ∙ the_second (is_nop w) (ap (λ (e : Edition). is_wired e (rd_of w)) second ∙ eq-eqb (rd_of w).0 0 zeroth)
 
   -- and of the word in EX, no field that names it has its flag
-  pub register-0-raises-nothing : (w : ℕ) → (shown_of u).execute ≡ In.Holds w
+  pub register_0_raises_nothing : (w : ℕ) → (shown_of u).execute ≡ In.Holds w
       → ((first_of w).0 ≡ 0 → (shown_of u).flags.rs1 ≡ false) × ((rs2_of w).0 ≡ 0 → (shown_of u).flags.rs2 ≡ false) × ((rs3_of w).0 ≡ 0 → (shown_of u).flags.rs3 ≡ false)
-  register-0-raises-nothing w here =
+  register_0_raises_nothing w here =
       let all = row_flags u made ∙ ap (λ (s : Stage). flags_shown s (shown_of u).change) here in (
         λ zeroth. ap (λ (f : Flags). f.rs1) all ∙ none (takes_first (reads_of (operation_of w))) (first_of w) zeroth,
         λ zeroth. ap (λ (f : Flags). f.rs2) all ∙ none (takes_second (reads_of (operation_of w))) (rs2_of w) zeroth,
@@ -183,7 +183,7 @@ module _ (u : Unit) (made : well_made_of u ≡ true) (second : u.program.edition
       )
     where
       none : (reads : Bool) (p : Pointer) → p.0 ≡ 0 → (reads && shows (shown_of u).change p) ≡ false
-      none true p zeroth = register-0-not-shown p zeroth
+      none true p zeroth = register_0_not_shown p zeroth
       none false p zeroth = refl
 
 li_shown : (w : ℕ) (x : Change) → is_li w ≡ true → flags_shown (In.Holds w) x ≡ record { rs1 = shows x (rd_of w); rs2 = false; rs3 = false }
@@ -228,22 +228,22 @@ module _ (u : Unit) (i : Instruction) (o : Operands) (here : u.decoded ≡ ID/EX
       operands_by u.executed i o ∙ ap (λ (d : IdEx). operands_shown (flags_of u.executed d) (change_of u.executed) o) (sym here)
 
   -- and of these it makes its outcome in the cycle
-  pub row-works : (cycle_of u).executed ≡ worked i (operands_shown (shown_of u).flags (shown_of u).change o)
+  pub row_works : (cycle_of u).executed ≡ worked i (operands_shown (shown_of u).flags (shown_of u).change o)
   unfolding cycle_of
-  row-works = ap (after_ex u.executed) here ∙ ap (worked i) row_operands
+  row_works = ap (after_ex u.executed) here ∙ ap (worked i) row_operands
 
 -- ---- the call
 
 module _ (u : Unit) (start : ℕ) (buffer : List ℕ) where
   -- "then a cycle tests 8, with a trace row 8 and 9": a drained unit is refused with 8, whether or not there is room, and 9 is for one that is not drained
-  pub drained-before-room : well_made_of u ≡ true → drained_of u ≡ true → traced_of u start buffer ≡ (record { refusal = DRAINED; unit = u }, buffer)
+  pub drained_before_room : well_made_of u ≡ true → drained_of u ≡ true → traced_of u start buffer ≡ (record { refusal = DRAINED; unit = u }, buffer)
   unfolding traced_of
-  drained-before-room made drained = sym (passes _ _ _ (not_denied made) (stops _ _ drained))
+  drained_before_room made drained = sym (passes _ _ _ (not_denied made) (stops _ _ drained))
 
-  pub room-behind-drained : well_made_of u ≡ true → drained_of u ≡ false → length buffer < start + row_size
+  pub room_behind_drained : well_made_of u ≡ true → drained_of u ≡ false → length buffer < start + row_size
       → traced_of u start buffer ≡ (record { refusal = ROOM; unit = u }, buffer)
   unfolding traced_of
-  room-behind-drained made more short = sym (passes _ _ _ (not_denied made) (passes _ _ _ more (stops _ _ (lt-ltb _ _ short))))
+  room_behind_drained made more short = sym (passes _ _ _ (not_denied made) (passes _ _ _ more (stops _ _ (lt-ltb _ _ short))))
 
   -- "unit, register file and buffers stay unaltered"
   pub refused_unaltered : ((traced_of u start buffer).0.refusal ≡ 0 → ⊥) → ((traced_of u start buffer).0.unit ≡ u) × ((traced_of u start buffer).1 ≡ buffer)
@@ -254,9 +254,9 @@ module _ (u : Unit) (start : ℕ) (buffer : List ℕ) where
       Kept a = (a.0.refusal ≡ 0 → ⊥) → (a.0.unit ≡ u) × (a.1 ≡ buffer)
 
   -- a cycle with a row leaves the unit that a cycle leaves
-  pub as-without-a-row : (traced_of u start buffer).0.refusal ≡ 0 → (traced_of u start buffer).0 ≡ cycled_of u
+  pub as_without_a_row : (traced_of u start buffer).0.refusal ≡ 0 → (traced_of u start buffer).0 ≡ cycled_of u
   unfolding traced_of cycled_of
-  as-without-a-row =
+  as_without_a_row =
       apart _ _ Same _ _ (λ made h. stops _ _ made) (λ made. apart _ _ Same _ _ (λ drained h. passes _ _ _ made (stops _ _ drained))
       (λ more. apart _ _ Same _ _ (λ _ h. absurd (omega arith)) (λ _. subst Same ends (λ h. passes _ _ _ made (passes _ _ _ more ends)))))
     where
@@ -271,24 +271,24 @@ module _ (u : Unit) (start : ℕ) (buffer : List ℕ) where
   AsCall a t = (a.unit ≡ unit_after (row t) u) × (made_unless a.refusal ≡ cycles_in (row t) u)
 
   -- where the cycle without a row is refused too, there is none with room and none without
-  as-refused : (a : Cycled) → made_unless a.refusal ≡ 0 → a.unit ≡ u → cycled_of u ≡ a → (t : Bool) → AsCall a t
-  as-refused a none kept e true = (ap (λ (x : Cycled). x.unit) (sym e), ap (λ (x : Cycled). made_unless x.refusal) (sym e))
-  as-refused a none kept e false = (kept, none)
+  as_refused : (a : Cycled) → made_unless a.refusal ≡ 0 → a.unit ≡ u → cycled_of u ≡ a → (t : Bool) → AsCall a t
+  as_refused a none kept e true = (ap (λ (x : Cycled). x.unit) (sym e), ap (λ (x : Cycled). made_unless x.refusal) (sym e))
+  as_refused a none kept e false = (kept, none)
 
-  pub row-is-a-call : AsCall (traced_of u start buffer).0 room
+  pub row_is_a_call : AsCall (traced_of u start buffer).0 room
   unfolding traced_of cycled_of
-  row-is-a-call =
-      apart _ _ Same _ _ (λ ill. as-refused (record { refusal = STATE; unit = u }) refl refl (sym (stops _ _ ill)) room)
-      (λ made. apart _ _ Same _ _ (λ done. as-refused (record { refusal = DRAINED; unit = u }) refl refl (sym (passes _ _ _ made (stops _ _ done))) room)
+  row_is_a_call =
+      apart _ _ Same _ _ (λ ill. as_refused (record { refusal = STATE; unit = u }) refl refl (sym (stops _ _ ill)) room)
+      (λ made. apart _ _ Same _ _ (λ done. as_refused (record { refusal = DRAINED; unit = u }) refl refl (sym (passes _ _ _ made (stops _ _ done))) room)
       (λ more. apart _ _ Same _ _ (λ short. subst (AsCall (record { refusal = ROOM; unit = u })) (sym (lt-leb (start + row_size) (length buffer) (ltb-true _ _ short))) (refl, refl))
-      (λ long. subst Same ends (with-room long (passes _ _ _ made (passes _ _ _ more ends))))))
+      (λ long. subst Same ends (with_room long (passes _ _ _ made (passes _ _ _ more ends))))))
     where
       Same : Cycled × List ℕ → Type 0
       Same a = AsCall a.0 room
 
-      with-room : ltb (length buffer) (start + row_size) ≡ false → record { refusal = 0; unit = cycle_of u } ≡ cycled_of u
+      with_room : ltb (length buffer) (start + row_size) ≡ false → record { refusal = 0; unit = cycle_of u } ≡ cycled_of u
           → AsCall (record { refusal = 0; unit = cycle_of u }) room
-      with-room long e =
+      with_room long e =
           subst (AsCall (record { refusal = 0; unit = cycle_of u })) (sym (le-leb (start + row_size) (length buffer) (ltb-false (length buffer) (start + row_size) long)))
           (ap (λ (x : Cycled). x.unit) e, ap (λ (x : Cycled). made_unless x.refusal) e)
 
@@ -302,21 +302,21 @@ module _ (u : Unit) (whole : Whole u.registers) (made : well_made_of u ≡ true)
   lines = lines_of u.program
 
   -- the row of the c-th cycle since a go, counted from 1, shows c
-  pub gone-number : (shown_of before).cycle ≡ suc c
+  pub gone_number : (shown_of before).cycle ≡ suc c
   unfolding shown_by
-  gone-number = omega (arith, demand3-number u whole made c (omega arith))
+  gone_number = omega (arith, demand3_number u whole made c (omega arith))
 
   -- the row of cycle c + 1 since a go shows by what the plain machine's next word changes the registers
-  pub gone-row : plain u.program.edition (take (suc c - 3) lines) u.registers
+  pub gone_row : plain u.program.edition (take (suc c - 3) lines) u.registers
       ≡ changed_by (shown_of before).change (plain u.program.edition (take (c - 3) lines) u.registers)
-  gone-row =
+  gone_row =
       let answers : (cycled_of before).refusal ≡ 0
-      = rw (lt-leb (last_of u.program.n.0) c early) at (demand3-cycle-answers u whole made c (omega arith)) in
+      = rw (lt-leb (last_of u.program.n.0) c early) at (demand3_cycle_answers u whole made c (omega arith)) in
       let next : (cycled_of before).unit ≡ cycle_of before = ap (λ (a : Cycled). a.unit) (goes before answers).gone in
-      sym (demand3-registers u whole made (suc c) (omega arith))
+      sym (demand3_registers u whole made (suc c) (omega arith))
       ∙ ap (λ (v : Unit). v.registers) next
       ∙ row_change before
-      ∙ ap (changed_by (shown_of before).change) (demand3-registers u whole made c (omega arith))
+      ∙ ap (changed_by (shown_of before).change) (demand3_registers u whole made c (omega arith))
 
 -- the mark of a latch is shown with the register that is written
 mark_by : (latch : ExWb) → is_nothing (change_of latch) ≡ false → mark_shown (change_of latch) ≡ mark_in latch
@@ -330,7 +330,7 @@ mark_by (EX/WB.Holds i o) e = go i.target e
 -- "The mark travels through the latch to the row": the row of cycle k + 4 since a go, which has line k in WB, shows the mark that plain execution answers for that line, where
 -- it does not show `--`
 module _ (u : Unit) (whole : Whole u.registers) (made : well_made_of u ≡ true) (k : ℕ) (line : k < u.program.n.0) where
-  pub gone-mark : (let shown = (shown_of (after_calls (k + 3) (go_of u).unit)).change in
+  pub gone_mark : (let shown = (shown_of (after_calls (k + 3) (go_of u).unit)).change in
       is_nothing shown ≡ false → mark_shown shown ≡ get_or (execute_all_of u.program.edition (lines_of u.program) (map row_of u.registers)).marks k 0)
   unfolding shown_by
-  gone-mark writes = mark_by (after_calls (k + 3) (go_of u).unit).executed writes ∙ demand3-marks u whole made k line
+  gone_mark writes = mark_by (after_calls (k + 3) (go_of u).unit).executed writes ∙ demand3_marks u whole made k line

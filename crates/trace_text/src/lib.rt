@@ -1,5 +1,7 @@
 // A job's whole text, as the program `trace` prints it: by value, or in a lent buffer.
 
+#![tactic(auto)]
+
 ghost use Rattle.std.specs.Prelude.{◌≡◌, true};
 ghost use Rattle.table.specs.Refusal.{ROOM};
 ghost use Rattle.unit_rules.specs.Record.{well_made_of};

@@ -1,5 +1,7 @@
 // For each job file named as an argument: its name on a line, and then what `trace` prints for it.
 
+#![tactic(auto)]
+
 use console::arguments::{print_argument, read_argument};
 use console::output::print_front;
 use job_reader::BYTES_TO_READ;

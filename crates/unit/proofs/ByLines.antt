@@ -8,7 +8,7 @@ use Rattle.unit_rules.specs.declared.Unit.{Unit}
 use Rattle.unit_rules.specs.declared.InFlight.{InFlight}
 use Rattle.unit_rules.specs.Settled.{settled_flight, Settled}
 use Rattle.unit_rules.proofs.Settled.{many, settled_on, settled_early, settled_in_two}
-use Rattle.unit_rules.proofs.WellMade.{well-made-says, last_small, well-made-test, well_made_cycles, gone_later, cycles_join}
+use Rattle.unit_rules.proofs.WellMade.{well_made_says, last_small, well_made_test, well_made_cycles, gone_later, cycles_join}
 use Rattle.unit_rules.proofs.Positions.{cycles_program, cycles_number}
 
 -- the registers of a unit are 32: as a field of a struct the checker knows them as the fields of each
@@ -32,11 +32,11 @@ part (suc s) k (suc n) (x ∷ l) h = part s k n l (omega arith)
 
 -- what is added and cut out is in range
 module _ (u : Unit) (made : well_made_of u ≡ true) (m : ℕ) (fits : u.cycle + m ≤ last_of u.program.n.0) where
-  pub in-67-cycles : u.cycle + m ≤ 67
-  in-67-cycles = let last = last_small u made in omega arith
+  pub in_67_cycles : u.cycle + m ≤ 67
+  in_67_cycles = let last = last_small u made in omega arith
 
-  pub in-64-lines : {c end : ℕ} → c ≡ u.cycle + m → end ≡ c - 3 → end ≤ 64
-  in-64-lines reached e = let few = (well-made-says u made).few in let lines = lines_completed u.program.n.0 (u.cycle + m) fits in omega arith
+  pub in_64_lines : {c end : ℕ} → c ≡ u.cycle + m → end ≡ c - 3 → end ≤ 64
+  in_64_lines reached e = let few = (well_made_says u made).few in let lines = lines_completed u.program.n.0 (u.cycle + m) fits in omega arith
 
 module _ (u : Unit) (m : ℕ) (settled : Settled u) (enough : u.program.n.0 ≤ length u.program.words) (whole : Whole u.registers)
     (fits : u.cycle + m ≤ last_of u.program.n.0) where
@@ -56,21 +56,21 @@ module _ (u : Unit) (m : ℕ) (settled : Settled u) (enough : u.program.n.0 ≤ 
 
 module _ (u : Unit) (made : well_made_of u ≡ true) where
   pub early : u.cycle < 2 → Settled u
-  early h = settled_early u (well-made-says u made).placed h
+  early h = settled_early u (well_made_says u made).placed h
 
   -- two cycles on, where there are more to make
   module _ (m : ℕ) (fits : u.cycle + m ≤ last_of u.program.n.0) (more : 3 ≤ m) {v : Unit} (two : v ≡ cycles_of 2 u) where
-    pub settled-then : Whole u.registers → Settled v
-    settled-then whole = subst Settled (sym two) (settled_in_two u (well-made-says u made).placed whole)
+    pub settled_then : Whole u.registers → Settled v
+    settled_then whole = subst Settled (sym two) (settled_in_two u (well_made_says u made).placed whole)
 
     -- from cycle 2 on a unit has gone
     pub made_then : 2 ≤ u.cycle → well_made_of v ≡ true
-    made_then late = rw two (well-made-test (cycles_of 2 u) (well_made_cycles u (gone_later u (well-made-says u made) (omega arith)) (well-made-says u made) 2 (omega arith)))
+    made_then late = rw two (well_made_test (cycles_of 2 u) (well_made_cycles u (gone_later u (well_made_says u made) (omega arith)) (well_made_says u made) 2 (omega arith)))
 
-    pub fits-then : v.cycle + (m - 2) ≤ last_of v.program.n.0
-    fits-then = rw (two, cycles_program 2 u, cycles_number 2 u) (omega arith)
+    pub fits_then : v.cycle + (m - 2) ≤ last_of v.program.n.0
+    fits_then = rw (two, cycles_program 2 u, cycles_number 2 u) (omega arith)
 
-    pub then-on : {w : Unit} → w ≡ cycles_of (m - 2) v → w ≡ cycles_of m u
-    then-on e =
+    pub then_on : {w : Unit} → w ≡ cycles_of (m - 2) v → w ≡ cycles_of m u
+    then_on e =
         let all : 2 + (m - 2) ≡ m = omega arith in
         e ∙ ap (cycles_of (m - 2)) two ∙ cycles_join 2 (m - 2) u ∙ ap (λ (k : ℕ). cycles_of k u) all

@@ -12,8 +12,8 @@ module _ (file : List ℕ) (u : Unit) {read : ReadJob} (reads : read ≡ read_of
       → ◌≡◌ {A = Loaded} (record { refusal = read.refusal; place = read.place; unit = u }) (loaded_by (read_of file) u)
   refused h = rw (← reads, ne_eqb _ _ h)
 
-  pub few-registers : read.refusal ≡ 0 → read.job.r ≤ 32
-  few-registers e = rw reads (sound_read file (sym (ap (λ (r : ReadJob). r.refusal) reads) ∙ e)).fewer
+  pub few_registers : read.refusal ≡ 0 → read.job.r ≤ 32
+  few_registers e = rw reads (sound_read file (sym (ap (λ (r : ReadJob). r.refusal) reads) ∙ e)).fewer
 
   pub accepted : {f : List Register} {v : Unit} → read.refusal ≡ 0
       → f ≡ cleared_for read.job.program.edition zero_register (registers_set read.job.r read.job.registers u.registers) → v ≡ begun_of false read.job.program f
@@ -30,8 +30,8 @@ module _ (file old : List Register) {i r : ℕ} {f : List Register} (few : i ≤
   all_set : f ≡ registers_set r file old
   all_set = at_end (λ k. registers_set k file old) _ _ few all e
 
-  pub set-and-cleared : t ≡ true → set f 0 zero_register ≡ cleared_for edition zero_register (registers_set r file old)
-  set-and-cleared h = rw (← asked, h, all_set)
+  pub set_and_cleared : t ≡ true → set f 0 zero_register ≡ cleared_for edition zero_register (registers_set r file old)
+  set_and_cleared h = rw (← asked, h, all_set)
 
-  pub set-alone : t ≡ false → f ≡ cleared_for edition zero_register (registers_set r file old)
-  set-alone h = rw (← asked, h) all_set
+  pub set_alone : t ≡ false → f ≡ cleared_for edition zero_register (registers_set r file old)
+  set_alone h = rw (← asked, h) all_set

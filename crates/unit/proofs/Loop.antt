@@ -4,7 +4,7 @@
 use Rattle.unit_rules.proofs.Shared.{ℕ, zero, suc, ◌+◌, ◌-◌, ◌%◌, ◌≤◌, ◌<◌, ◌≡◌, refl, sym, ap, subst, ◌∙◌, Bool, true, false, cond, List, add_assoc, add-zero}
 use Rattle.unit_rules.proofs.Shared.{add-one, arith, ltb, get_or, set, Register, zero_register, Target, None, To, is_li, rd_of, rs1_of, first_of, Edition}
 use Rattle.unit_rules.proofs.Shared.{target_of, instruction_of, instruction_at, fetched_in, after_wb, after_id, cycle_of, cycles_of, in_executed, well_made_of, write_to}
-use Rattle.unit_rules.proofs.Shared.{write_of, sources_of, read_at, decoded_with, in_flight_of, unit_with, advanced_of}
+use Rattle.unit_rules.proofs.Shared.{write_of, sources_of, read_at_lem, decoded_with, in_flight_of, unit_with, advanced_of}
 use Rattle.job_rules.specs.declared.Program.{Program}
 use Rattle.unit_rules.specs.declared.IfId.{IfId}
 use Rattle.unit_rules.specs.declared.IfId.TheVariants as IF/ID
@@ -13,7 +13,7 @@ use Rattle.unit_rules.specs.declared.ExWb.TheVariants as EX/WB
 use Rattle.unit_rules.specs.declared.Unit.{Unit}
 use Rattle.table.proofs.Theorems.{each_target}
 use Rattle.unit_rules.proofs.Positions.{Placed, placed_cycles}
-use Rattle.unit_rules.proofs.WellMade.{well-made-says}
+use Rattle.unit_rules.proofs.WellMade.{well_made_says}
 use Rattle.unit_rules.specs.declared.Write.{Write}
 use Rattle.unit_rules.specs.declared.InFlight.{InFlight}
 use Rattle.unit_rules.specs.declared.Sources.{Sources}
@@ -24,12 +24,12 @@ pub turn : (u : Unit) {g : List Register} {l : InFlight} {w : Write} {v : Source
     → u.program.n.0 ≤ 64
     → w ≡ write_of u.executed → g ≡ cond w.writes (set u.registers w.at.0 w.value) u.registers
     → v ≡ sources_of u.fetched
-    → l ≡ advanced_of u.program.edition u.program.n (in_flight_of u) w (read_at v g) (get_or u.program.words (u.count.0 % 64) 0)
+    → l ≡ advanced_of u.program.edition u.program.n (in_flight_of u) w (read_at_lem v g) (get_or u.program.words (u.count.0 % 64) 0)
     → unit_with u 1 g l ≡ cycle_of u
 unfolding cycle_of
 turn u {g = g} few ew eg ev el =
     let stored : g ≡ after_wb u.executed u.registers = eg ∙ rw ew (write_back u.executed u.registers) in
-    let read : decoded_with u.fetched (read_at (sources_of u.fetched) g) ≡ after_id u.fetched g = decode u.fetched g in
+    let read : decoded_with u.fetched (read_at_lem (sources_of u.fetched) g) ≡ after_id u.fetched g = decode u.fetched g in
     let worked = execute u.executed u.decoded in
     let fetched = deliver u.program u.count few in
     rw (el, ev, ew, read, stored, worked, fetched)
@@ -97,22 +97,22 @@ at_is (EX/WB.Holds i o) = go i.target
 -- where a cycle writes and reads
 module _ (u : Unit) (made : well_made_of u ≡ true) (c : ℕ) {f : List Register} {l : InFlight} (e : unit_with u c f l ≡ cycles_of c u) where
   placed : Placed (unit_with u c f l)
-  placed = subst Placed (sym e) (placed_cycles c u (well-made-says u made).placed)
+  placed = subst Placed (sym e) (placed_cycles c u (well_made_says u made).placed)
 
   read : Small l.fetched
-  read = subst Small (sym placed.in-IF/ID) (small_fetched u.program (u.cycle + c))
+  read = subst Small (sym placed.in_if_id) (small_fetched u.program (u.cycle + c))
 
   module _ {v : Sources} (from : v ≡ sources_of l.fetched) where
-    pub first-in-range : v.first.0 < 32
-    first-in-range = rw from read.first
+    pub first_in_range : v.first.0 < 32
+    first_in_range = rw from read.first
 
-    pub second-in-range : v.second.0 < 32
-    second-in-range = rw from read.second
+    pub second_in_range : v.second.0 < 32
+    second_in_range = rw from read.second
 
-    pub third-in-range : v.third.0 < 32
-    third-in-range = rw from read.third
+    pub third_in_range : v.third.0 < 32
+    third_in_range = rw from read.third
 
-  pub write-in-range : {w : Write} → w ≡ write_of l.executed → w.at.0 < 32
-  write-in-range h =
-      let s = subst Small (sym placed.in-EX/WB) (small_fetched u.program (u.cycle + c - 2)) in
+  pub write_in_range : {w : Write} → w ≡ write_of l.executed → w.at.0 < 32
+  write_in_range h =
+      let s = subst Small (sym placed.in_ex_wb) (small_fetched u.program (u.cycle + c - 2)) in
       rw (h, at_is l.executed) s.target

@@ -1,5 +1,7 @@
 // The calls on a unit, by value: a unit goes in and comes back, and on a refusal it comes back as it was given.
 
+#![tactic(auto)]
+
 ghost use Rattle.std.specs.Prelude.{◌≡◌};
 ghost use Rattle.unit_rules.specs.Calls.{cycled_of, ran_of};
 

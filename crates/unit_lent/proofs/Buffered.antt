@@ -13,25 +13,25 @@ use Rattle.unit_lent.proofs.Walking.{mut_slice_Tells, mut_Tells, mut_slice_of, n
 use Rattle.unit_lent.proofs.Walking.{params1, pass0, pass1, place, plain, ptr-vals, qed, refl, returns, row, seq, shape, slice-vals}
 use Rattle.unit_lent.proofs.Walking.{slice_ty, slice_val, split, stay_none, stay_ref, stop, sub, ty_int, ty_ref, u8, uint_Lawful}
 use Rattle.unit_lent.proofs.Walking.{uint_Makes, uint_Tells, uint_vals, unit-mir, unit_row, usize, vint, vptr, w64, w8, whole, yes, ‵}
-use Rattle.unit_lent.proofs.Handed.{Handed, handed-back, lent_type, put_back}
-use Rattle.unit_lent.proofs.Steps.{by_value, calls-core, copying, freed, machine, mutably, opened, ref, typed, value, whole_again}
+use Rattle.unit_lent.proofs.Handed.{Handed, handed_back, lent_type, put_back}
+use Rattle.unit_lent.proofs.Steps.{by_value, calls_core, copying, freed, machine, mutably, opened, ref, typed, value, whole_again}
 use Rattle.unit_lent.proofs.Thin.{Met, Thin, WalkAt, carried, code_of, ended, ends}
 
 abbrev own : Handed → Ended
-own X = ended 2 (mutably ∷ mut_slice_of (1 ∷ []) tt (plain (λ _. u8)) ∷ plain (λ _. usize) ∷ []) X.answer-type
+own X = ended 2 (mutably ∷ mut_slice_of (1 ∷ []) tt (plain (λ _. u8)) ∷ plain (λ _. usize) ∷ []) X.answer_type
 
 -- what the core gives, what the function promises, and that the promise is kept by what is given
-module _ (X : Handed) (gives : Record → ℕ → List ℕ → X.whole-type.D × List ℕ) (Says : Reading (own X))
-    (so : (κs : Lfts 2) (a : Args (own X).signature κs) (r : X.whole-type.D) (after : List ℕ)
+module _ (X : Handed) (gives : Record → ℕ → List ℕ → X.whole_type.D × List ℕ) (Says : Reading (own X))
+    (so : (κs : Lfts 2) (a : Args (own X).signature κs) (r : X.whole_type.D) (after : List ℕ)
     → (r, after) ≡ gives (now a.0) a.1.1.0 (now a.1.0)
     → Says κs a (X.answer r) (at_exit (own X) κs a (X.unit r, (after, (tt, tt))))) where
   abbrev thin : Thin
   thin = record {
     own = own X;
-    core = ended 1 (by_value ∷ mut_slice_of (0 ∷ []) tt (plain (λ _. u8)) ∷ plain (λ _. usize) ∷ []) (row X.whole-type);
+    core = ended 1 (by_value ∷ mut_slice_of (0 ∷ []) tt (plain (λ _. u8)) ∷ plain (λ _. usize) ∷ []) (row X.whole_type);
     says = Says;
     said = λ κs a r s. (r, now s.1.0) ≡ gives a.0 a.1.1.0 (now a.1.0);
-    code = λ f. code_of 2 3 (X.answer-mir ∷ lent_type ∷ slice_ty (ty_ref (named 1) mut (ty_int w8)) ∷ ty_int w64 ∷ layout (shape X.whole-type)
+    code = λ f. code_of 2 3 (X.answer_mir ∷ lent_type ∷ slice_ty (ty_ref (named 1) mut (ty_int w8)) ∷ ty_int w64 ∷ layout (shape X.whole_type)
         ∷ unit-mir ∷ ty_ref erased mut (ty_int w8) ∷ slice_ty (ty_ref erased mut (ty_int w8)) ∷ [])
         (copying 5 (seq (assign (place 6 []) (addr_of (place 2 (field 0 ∷ deref (ty_int w8) ∷ []))))
         (seq (assign (place 7 []) (aggregate (copy (place 6 []) ∷ copy (place 2 (field 1 ∷ [])) ∷ [])))
@@ -70,20 +70,20 @@ module _ (X : Handed) (gives : Record → ℕ → List ℕ → X.whole-type.D ×
       (init ! 5 refl (tt, (tt, (record { fits = are.1.0.0.1.0 }, tt)))) $ nothing ! $
       owned ! usize (Is usize) (uint_Makes 𝓛 w64) start _ are.1.1.0 $ fjoin ! $ move ! (22 ∷ 0 ∷ []) $ fjoin ! $ move ! (2 ∷ 0 ∷ []) $
       fjoin ! $ move ! (21 ∷ 0 ∷ []) $
-      calls-core ! fm thin.core thin.said known
+      calls_core ! fm thin.core thin.said known
       ((κ', tt), (q', tt), tt, (u, (buffer, (start, tt))), (machine u ∷ [], (slice buffer ∷ [], (vint w64 start ∷ [], tt)))) (id⊢ 𝓤 _)
       (and_then ! (value ! 9 refl) (and_then ! (value ! 5 refl) (and_then ! (value ! 13 refl) (no_more !)))) (λ v r ws e is. drop ! $
       move ! (1 ∷ []) $ fsplit ! $ move ! (1 ∷ []) $ fsplit ! $ fsplit ! $ move ! (1 ∷ []) $ feq_l ! (λ l. move ! (1 ∷ 2 ∷ 3 ∷ []) $ drop ! $ drop ! $
       move ! (2 ∷ 3 ∷ 4 ∷ 5 ∷ 12 ∷ 18 ∷ 20 ∷ []) $
       -- [the unit's cell; the open borrow, three entries; locals 4, 1 and 0; the token; the buffer's last contents; the rest of the locals]
-      handed-back X ! 4 l4 l0 l1 r v is refl refl refl $
+      handed_back X ! 4 l4 l0 l1 r v is refl refl refl $
       -- [the lent unit, three entries; locals 4, 1 and 0; the token; the buffer's last contents; locals 7, 6 and 5, two entries each; what frees
       -- local 4; locals 3 and 2; what frees locals 1 and 0]
       returns ! (look ! 5 refl) $ move ! (5 ∷ 20 ∷ 4 ∷ 19 ∷ 17 ∷ 18 ∷ 15 ∷ 16 ∷ 3 ∷ 14 ∷ 12 ∷ 13 ∷ 10 ∷ 11 ∷ 8 ∷ 9 ∷ []) $ freed ! $ freed ! $
       freed ! $ freed ! $ freed ! $ freed ! $ freed ! $ freed ! $ free0 ! $ whole_again ! b o $ nothing ! $
       owned ! usize (Is usize) (uint_Makes 𝓛 w64) start _ are.1.1.0 $ fjoin ! $ move ! (4 ∷ 0 ∷ []) $ fjoin ! $ move ! (1 ∷ 0 ∷ []) $
       fjoin ! $ move ! (1 ∷ 2 ∷ []) $ join ! $
-      owned ! X.answer-type (Is X.answer-type) (X.makes 𝓛) (X.answer r) _ (X.answer-is r v is) $ move ! (1 ∷ 2 ∷ 0 ∷ []) $
+      owned ! X.answer_type (Is X.answer_type) (X.makes 𝓛) (X.answer r) _ (X.answer_is r v is) $ move ! (1 ∷ 2 ∷ 0 ∷ []) $
       by ! (ends thin (κ, (κ', tt)) (q, (q', tt)) tt (ref b o γ u, (buffer, (start, tt))) 𝓛 (X.value r) (X.answer r)
       (X.unit r, (ws.1.0, (tt, tt))) (tt, (l, (tt, tt))) (so (κ, (κ', tt)) _ r ws.1.0 e)))))))))))))
 

@@ -40,25 +40,25 @@ module _ {M : Type 1} {𝓤 : Ura M} {𝓛 : Logic 𝓤} {K : Type 0} {Γ : List
       (λ (i : Item 𝓤). Part K 𝓛 i full_share (ty_struct ν τs) l 0 (vstruct vs) (λ v. ‵ (fat full_share (ty_struct ν τs) l 0 v))) (sym e) (whole t))))
 
 pub record Handed : Type 2 where
-  pub whole-type : Declared
-  pub whole-laws : LL.Laws whole-type
-  pub unit : whole-type.D → Record
+  pub whole_type : Declared
+  pub whole_laws : LL.Laws whole_type
+  pub unit : whole_type.D → Record
   -- the unit's field
   pub at : ℕ
-  pub answer-type : RattleType
-  pub answer-mir : Ty
-  pub answer : whole-type.D → answer-type.Denot
+  pub answer_type : RattleType
+  pub answer_mir : Ty
+  pub answer : whole_type.D → answer_type.Denot
   -- the answer as it lies in memory, and how it is taken from the struct in local s
-  pub value : whole-type.D → Val
+  pub value : whole_type.D → Val
   pub rest : ℕ → Right
-  pub unit-is : (r : whole-type.D) (v : Val) → Is (row whole-type) r (v ∷ []) → IsUnit (unit r)
-  pub answer-is : (r : whole-type.D) (v : Val) → Is (row whole-type) r (v ∷ []) → Is answer-type (answer r) (value r ∷ [])
-  pub answer_typed : {M : Type 1} {𝓤 : Ura M} (𝓛 : Logic 𝓤) (r : whole-type.D) (v : Val)
-      → Is (row whole-type) r (v ∷ []) → Holds (has_ty answer-mir (value r)) × WT (value r)
-  pub makes : {M : Type 1} {𝓤 : Ura M} (𝓛 : Logic 𝓤) → Makes 𝓛 answer-type (Is answer-type)
+  pub unit_is : (r : whole_type.D) (v : Val) → Is (row whole_type) r (v ∷ []) → IsUnit (unit r)
+  pub answer_is : (r : whole_type.D) (v : Val) → Is (row whole_type) r (v ∷ []) → Is answer_type (answer r) (value r ∷ [])
+  pub answer_typed : {M : Type 1} {𝓤 : Ura M} (𝓛 : Logic 𝓤) (r : whole_type.D) (v : Val)
+      → Is (row whole_type) r (v ∷ []) → Holds (has_ty answer_mir (value r)) × WT (value r)
+  pub makes : {M : Type 1} {𝓤 : Ura M} (𝓛 : Logic 𝓤) → Makes 𝓛 answer_type (Is answer_type)
   pub takes : {M : Type 1} {𝓤 : Ura M} {𝓛 : Logic 𝓤} {K : Type 0} {Γ : List (Item 𝓤)} {E : Env 𝓤 𝓛.H}
-      → K → (s n l : ℕ) (r : whole-type.D) → spot_of 𝓤 𝓛.H E s ≡ (layout (shape whole-type), l, 0)
-      → nth 𝓛 n Γ ≡ ‵ (fat full_share (layout (shape whole-type)) l 0 (LL.val whole-type whole-laws r))
+      → K → (s n l : ℕ) (r : whole_type.D) → spot_of 𝓤 𝓛.H E s ≡ (layout (shape whole_type), l, 0)
+      → nth 𝓛 n Γ ≡ ‵ (fat full_share (layout (shape whole_type)) l 0 (LL.val whole_type whole_laws r))
       → Opd K 𝓛 Γ E (copy (place s (field at ∷ []))) (machine (unit r)) × Rv K 𝓛 Γ E (rest s) (value r)
 
 -- `*u = s.unit`, of the struct in local s, and then what else is in s
@@ -74,33 +74,33 @@ module _ (X : Handed) {M : Type 1} {𝓤 : Ura M} {𝓛 : Logic 𝓤} {K : Type 
   -- the core has returned v: it goes to local s, the unit from there to where it stands, and what is left is the answer
   open 𝓛 use {H}
 
-  pub handed-back : K → {κ : Lft} {q : Share} {γ : GName} {was was' : Gv} {old : Val} {b o : ℕ} (s l l0 l1 : ℕ) (r : X.whole-type.D) (v : Val)
-      → Is (row X.whole-type) r (v ∷ []) → spot_of 𝓤 H E s ≡ (layout (shape X.whole-type), l, 0)
-      → spot_of 𝓤 H E 1 ≡ (lent_type, l1, 0) → spot_of 𝓤 H E 0 ≡ (X.answer-mir, l0, 0)
+  pub handed_back : K → {κ : Lft} {q : Share} {γ : GName} {was was' : Gv} {old : Val} {b o : ℕ} (s l l0 l1 : ℕ) (r : X.whole_type.D) (v : Val)
+      → Is (row X.whole_type) r (v ∷ []) → spot_of 𝓤 H E s ≡ (layout (shape X.whole_type), l, 0)
+      → spot_of 𝓤 H E 1 ≡ (lent_type, l1, 0) → spot_of 𝓤 H E 0 ≡ (X.answer_mir, l0, 0)
       → Step K 𝓛
-      (held κ q b o γ (X.unit r) ++ (‵ (fat full_share (layout (shape X.whole-type)) l 0 (LL.val X.whole-type X.whole-laws r))
+      (held κ q b o γ (X.unit r) ++ (‵ (fat full_share (layout (shape X.whole_type)) l 0 (LL.val X.whole_type X.whole_laws r))
       ∷ ‵ (fat full_share lent_type l1 0 (vptr b o))
-      ∷ ‵ (fat full_share X.answer-mir l0 0 (X.value r)) ∷ Γ))
+      ∷ ‵ (fat full_share X.answer_mir l0 0 (X.value r)) ∷ Γ))
       (runs C Λ E return p)
       (‵ (cell_at full_share unit_row.mir (old ∷ []) b o) ∷ ‵ (fobor κ q (Body (mem unit_row) b o γ)) ∷ ‵ (fobs γ was) ∷ ‵ (fauth γ was')
-      ∷ ‵ (froom (layout (shape X.whole-type)) l 0) ∷ ‵ (fat full_share lent_type l1 0 (vptr b o)) ∷ ‵ (froom X.answer-mir l0 0) ∷ Γ)
+      ∷ ‵ (froom (layout (shape X.whole_type)) l 0) ∷ ‵ (fat full_share lent_type l1 0 (vptr b o)) ∷ ‵ (froom X.answer_mir l0 0) ∷ Γ)
       (lands C Λ E (place s []) v (put_back X s) p)
-  handed-back t {b = b} {o = o} s l l0 l1 r v is at-s at_1 at-0 = step (λ k.
-      land t (place_in t s at-s (stop t)) (init t 4 refl ((LL.lawful X.whole-type X.whole-laws 𝓛).typed r _ is).0) $
-      rewrite t 4 (λ (a : Val). ‵ (fat full_share (layout (shape X.whole-type)) l 0 a))
-      (ap only (LL.tells X.whole-type X.whole-laws r _ is)) refl $
+  handed_back t {b = b} {o = o} s l l0 l1 r v is at-s at_1 at_0 = step (λ k.
+      land t (place_in t s at-s (stop t)) (init t 4 refl ((LL.lawful X.whole_type X.whole_laws 𝓛).typed r _ is).0) $
+      rewrite t 4 (λ (a : Val). ‵ (fat full_share (layout (shape X.whole_type)) l 0 a))
+      (ap only (LL.tells X.whole_type X.whole_laws r _ is)) refl $
       assigns t (of_opd t (X.takes t s 4 l r at-s refl).0)
-      (place_in t 1 at_1 (hop t (look t 5 refl) (stop t))) (store_raw t 0 refl (typed 𝓛 (X.unit r) (X.unit-is r v is))) $
+      (place_in t 1 at_1 (hop t (look t 5 refl) (stop t))) (store_raw t 0 refl (typed 𝓛 (X.unit r) (X.unit_is r v is))) $
       assigns t (X.takes t s 4 l r at-s refl).1
-      (place_in t 0 at-0 (stop t)) (init t 6 refl (X.answer_typed 𝓛 r v is)) $ closed t tt (X.unit r) b o (X.unit-is r v is) $ k)
+      (place_in t 0 at_0 (stop t)) (init t 6 refl (X.answer_typed 𝓛 r v is)) $ closed t tt (X.unit r) b o (X.unit_is r v is) $ k)
 
 -- ---- a refusal alone, in the struct that is given
 
 module _ (given : Declared) (refusal : given.D → ℕ) (unit : given.D → Record)
     (given-one : (x y : given.D) → ◌≡◌ {A = ℕ × (Denots (fields unit-type) × Unit {0})}
     (refusal x, (unit-type.to (unit x), tt)) (refusal y, (unit-type.to (unit y), tt)) → x ≡ y) where
-  abbrev refusing-type : Declared
-  refusing-type = record {
+  abbrev refusing_type : Declared
+  refusing_type = record {
     name = given.name;
     args = [];
     parts = u32-field ∷ unit-field ∷ [];
@@ -109,23 +109,23 @@ module _ (given : Declared) (refusal : given.D → ℕ) (unit : given.D → Reco
     to_one = given-one;
   }
 
-  abbrev refusing-laws : LL.Laws refusing-type
-  refusing-laws = (LL.u32-laws, (unit-field-laws, tt))
+  abbrev refusing_laws : LL.Laws refusing_type
+  refusing_laws = (LL.u32-laws, (unit-field-laws, tt))
 
   abbrev pub refusing : Handed
   refusing = record {
-    whole-type = refusing-type;
-    whole-laws = refusing-laws;
+    whole_type = refusing_type;
+    whole_laws = refusing_laws;
     unit = unit;
     at = 1;
-    answer-type = u32;
-    answer-mir = ty_int w32;
+    answer_type = u32;
+    answer_mir = ty_int w32;
     answer = refusal;
     value = λ r. vint w32 (refusal r);
     rest = λ s. rv_opd (copy (place s (field 0 ∷ [])));
-    unit-is = λ r v is. (LL.owed refusing-type refusing-laws r (v ∷ []) is).1.0;
-    answer-is = λ r v is. (LL.owed refusing-type refusing-laws r (v ∷ []) is).0;
-    answer_typed = λ 𝓛 r v is. ((uint_Lawful 𝓛 w32).typed (refusal r) _ (LL.owed refusing-type refusing-laws r (v ∷ []) is).0).0;
+    unit_is = λ r v is. (LL.owed refusing_type refusing_laws r (v ∷ []) is).1.0;
+    answer_is = λ r v is. (LL.owed refusing_type refusing_laws r (v ∷ []) is).0;
+    answer_typed = λ 𝓛 r v is. ((uint_Lawful 𝓛 w32).typed (refusal r) _ (LL.owed refusing_type refusing_laws r (v ∷ []) is).0).0;
     makes = λ 𝓛. uint_Makes 𝓛 w32;
     takes = λ t s n l r at-s e. (field_of t s n 1 at-s e refl, of_opd t (field_of t s n 0 at-s e refl));
   }
@@ -143,8 +143,8 @@ module _ (w : Width) (number-laws : LL.FLaws (uint_field w)) (given : Declared) 
     (given-one : (x y : given.D) → ◌≡◌ {A = ℕ × (ℕ × (Denots (fields unit-type) × Unit {0}))}
     ((numbers (answer x)).0, ((numbers (answer x)).1.0, (unit-type.to (unit x), tt)))
     ((numbers (answer y)).0, ((numbers (answer y)).1.0, (unit-type.to (unit y), tt))) → x ≡ y) where
-  abbrev given-type : Declared
-  given-type = record {
+  abbrev given_type : Declared
+  given_type = record {
     name = given.name;
     args = [];
     parts = u32-field ∷ uint_field w ∷ unit-field ∷ [];
@@ -153,34 +153,34 @@ module _ (w : Width) (number-laws : LL.FLaws (uint_field w)) (given : Declared) 
     to_one = given-one;
   }
 
-  abbrev given-laws : LL.Laws given-type
-  given-laws = (LL.u32-laws, (number-laws, (unit-field-laws, tt)))
+  abbrev given_laws : LL.Laws given_type
+  given_laws = (LL.u32-laws, (number-laws, (unit-field-laws, tt)))
 
-  abbrev kept-type : Declared
-  kept-type = record { name = kept.name; args = []; parts = u32-field ∷ uint_field w ∷ []; D = kept.D; to = numbers; to_one = kept-one }
+  abbrev kept_type : Declared
+  kept_type = record { name = kept.name; args = []; parts = u32-field ∷ uint_field w ∷ []; D = kept.D; to = numbers; to_one = kept-one }
 
-  abbrev kept_laws : LL.Laws kept-type
+  abbrev kept_laws : LL.Laws kept_type
   kept_laws = (LL.u32-laws, (number-laws, tt))
 
-  abbrev kept-is : (r : given.D) (v : Val) → Is (row given-type) r (v ∷ [])
-      → Is (row kept-type) (answer r) (LL.val kept-type kept_laws (answer r) ∷ [])
-  kept-is r v is = let fields-are = LL.owed given-type given-laws r (v ∷ []) is in (_, (refl, (fields-are.0, (fields-are.1.0, tt))))
+  abbrev kept_is : (r : given.D) (v : Val) → Is (row given_type) r (v ∷ [])
+      → Is (row kept_type) (answer r) (LL.val kept_type kept_laws (answer r) ∷ [])
+  kept_is r v is = let fields-are = LL.owed given_type given_laws r (v ∷ []) is in (_, (refl, (fields-are.0, (fields-are.1.0, tt))))
 
   abbrev pub told : Handed
   told = record {
-    whole-type = given-type;
-    whole-laws = given-laws;
+    whole_type = given_type;
+    whole_laws = given_laws;
     unit = unit;
     at = 2;
-    answer-type = row kept-type;
-    answer-mir = layout (shape kept-type);
+    answer_type = row kept_type;
+    answer_mir = layout (shape kept_type);
     answer = answer;
-    value = λ r. LL.val kept-type kept_laws (answer r);
+    value = λ r. LL.val kept_type kept_laws (answer r);
     rest = λ s. aggregate (copy (place s (field 0 ∷ [])) ∷ copy (place s (field 1 ∷ [])) ∷ []);
-    unit-is = λ r v is. (LL.owed given-type given-laws r (v ∷ []) is).1.1.0;
-    answer-is = kept-is;
-    answer_typed = λ 𝓛 r v is. ((LL.lawful kept-type kept_laws 𝓛).typed (answer r) _ (kept-is r v is)).0;
-    makes = λ 𝓛. LL.makes kept-type (LL.u32-plain, ((λ k vs. (tt, tt)), tt)) 𝓛;
+    unit_is = λ r v is. (LL.owed given_type given_laws r (v ∷ []) is).1.1.0;
+    answer_is = kept_is;
+    answer_typed = λ 𝓛 r v is. ((LL.lawful kept_type kept_laws 𝓛).typed (answer r) _ (kept_is r v is)).0;
+    makes = λ 𝓛. LL.makes kept_type (LL.u32-plain, ((λ k vs. (tt, tt)), tt)) 𝓛;
     takes = λ t s n l r at-s e.
         (field_of t s n 2 at-s e refl, agg t (and_then t (field_of t s n 0 at-s e refl) (and_then t (field_of t s n 1 at-s e refl) (no_more t))));
   }

@@ -99,7 +99,7 @@ module _ {M : Type 1} {𝓤 : Ura M} {𝓛 : Logic 𝓤} {K : Type 0} {Γ : List
   value t n e = load t (from t (stop t)) (look t n e)
 
   -- the core is called, on its tokens and what its parameters own. It returns v: what the answer owns, the tokens, the last values, and the promise
-  pub calls-core : K → {C : Calls 𝓤 H} {Λ : Loops 𝓤 H} {p : Post 𝓤 H} → FmC 𝓤 H 𝓛.laws C → {f : Name} {xs : List Operand} {d : Place} {rest : Code}
+  pub calls_core : K → {C : Calls 𝓤 H} {Λ : Loops 𝓤 H} {p : Post 𝓤 H} → FmC 𝓤 H 𝓛.laws C → {f : Name} {xs : List Operand} {d : Place} {rest : Code}
       (T : Ended) (P : Reading T) → Triple 𝓤 (C f) (promised 𝓛 T P) → (x : Bound 𝓛 T.signature) {i j : Item 𝓤}
       → ent 𝓤 (sep 𝓤 (mean 𝓛 i) (mean 𝓛 j)) (on_entry 𝓛 T.signature x.0 x.1 x.3 x.4)
       → Opds K 𝓛 (raw ((promised 𝓛 T P).pre (x, tt)) ∷ Γ) E xs (passed 𝓛 T.signature x)
@@ -107,7 +107,7 @@ module _ {M : Type 1} {𝓤 : Ura M} {𝓛 : Logic 𝓤} {K : Type 0} {Γ : List
       → Is (type_at T.signature.result x.0) r (v ∷ []) → Seq K 𝓛 (‵ ((type_at T.signature.result x.0).own_val r (v ∷ []))
       ∷ raw (alive 𝓛 T.signature x.0 x.1) ∷ ‵ (lasts T x.0 x.3 ws) ∷ Γ) (lands C Λ E d v rest p))
       → Seq K 𝓛 (i ∷ j ∷ Γ) (runs C Λ E (seq (call f xs d) rest) p)
-  calls-core t fm T P known x has os k =
+  calls_core t fm T P known x has os k =
       let R = type_at T.signature.result x.0 in
       let entry = on_entry 𝓛 T.signature x.0 x.1 x.3 x.4 in
       use2 𝓛 (raw ((promised 𝓛 T P).pre (x, tt))) (via 𝓤 entry has (via 𝓤 (sep 𝓤 (emp 𝓤) entry) (emp∗ 𝓤 entry) (comm∗ 𝓤 (emp 𝓤) entry))) $

@@ -6,7 +6,7 @@ use Prim.Native.Nat.{◌+◌}
 use lib.Dec.{leb}
 use Rattle.row_rules.specs.Text.{row_size}
 use Rattle.unit_rules.specs.Sequence.{unit_after, made_unless, cycles_in}
-use Rattle.unit_rules.specs.Sequence.Call.{load as a-load, go as a-go, cycle as a-cycle, row as a-row, run as a-run}
+use Rattle.unit_rules.specs.Sequence.Call.{load as a-load, go as a-go, cycle as a-cycle, row as a_row, run as a-run}
 use Rattle.unit_rules.proofs.Demand3.{demand3_load_refused}
 use Rattle.unit_rules.proofs.Theorems as model
 use Rattle.trace_rules.proofs.Theorems as shown
@@ -33,9 +33,9 @@ cycle_as_a_call κs a r s p = (ap (λ z. z.unit) p, ap (λ z. made_unless z.refu
 
 pub cycle_with_row_as_a_call : (κs : Lfts 2) (a : Args cycle_with_row.signature κs) (r : Res cycle_with_row.signature κs) (s : AtExit cycle_with_row.ended κs)
     → cycle_with_row_promise κs a r s
-    → (let x = a-row (leb (a.1.1.0 + row_size) (length (now a.1.0))) in (now s.0 ≡ unit_after x (now a.0)) × (made_unless r ≡ cycles_in x (now a.0)))
+    → (let x = a_row (leb (a.1.1.0 + row_size) (length (now a.1.0))) in (now s.0 ≡ unit_after x (now a.0)) × (made_unless r ≡ cycles_in x (now a.0)))
 cycle_with_row_as_a_call κs a r s p =
-    let call = shown.row-is-a-call (now a.0) a.1.1.0 (now a.1.0) in
+    let call = shown.row_is_a_call (now a.0) a.1.1.0 (now a.1.0) in
     (ap (λ z. z.0.unit) p ∙ call.0, ap (λ z. made_unless z.0.refusal) p ∙ call.1)
 
 pub run_as_a_call : (κs : Lfts 1) (a : Args run.signature κs) (r : Res run.signature κs) (s : AtExit run.ended κs)

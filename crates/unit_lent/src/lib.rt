@@ -1,5 +1,7 @@
 // The calls on a unit that is lent: it is updated where it stands, and on a refusal it stands as it was.
 
+#![tactic(auto)]
+
 ghost use Rattle.std.specs.Prelude.{◌≡◌};
 ghost use Rattle.unit_rules.specs.Calls.{load_of, go_of, cycled_of, ran_of, register_of, asked_drained};
 ghost use Rattle.trace_rules.specs.Call.{traced_of};
@@ -8,14 +10,14 @@ ghost use Rattle.unit_lent.specs.Lent.{loaded_with, gone_with, cycled_with, ran_
 use unit_rules::{Drained, RegisterAnswer, Unit};
 
 // What a load answers beside the unit.
-#[derive(Drop)]
+#[derive(Clone, Copy)]
 pub struct LoadAnswer {
     pub refusal: u32,
     pub place: usize,
 }
 
 // What a run answers beside the unit.
-#[derive(Drop)]
+#[derive(Clone, Copy)]
 pub struct RunAnswer {
     pub refusal: u32,
     pub made: u32,

@@ -10,30 +10,30 @@ pub within : (l : List ℕ) (i n : ℕ) → length (map (λ (x : ℕ). x) l) ≡
 within l i n e h = let f : length l ≡ n = sym (ap length (map-id l)) ∙ e in omega arith
 
 module _ (program : Program) where
-  pub too-many-lines : 64 < program.n.0 → false ≡ program_made program
-  too-many-lines h = rw (lt-leb _ _ h)
+  pub too_many_lines : 64 < program.n.0 → false ≡ program_made program
+  too_many_lines h = rw (lt-leb _ _ h)
 
-  pub too-few-words : program.n.0 ≤ 64 → length program.words < program.n.0 → false ≡ program_made program
-  too-few-words few h =
+  pub too_few_words : program.n.0 ≤ 64 → length program.words < program.n.0 → false ≡ program_made program
+  too_few_words few h =
       let none = lt-leb program.n.0 (first_bad (lines_of program))
       (omega (arith, bad_at_most (lines_of program), length-take program.n.0 program.words)) in
       rw (le-leb _ _ few, none)
 
-  pub words-decide : program.n.0 ≤ 64 → {bad : ℕ} → bad ≡ first_bad (lines_of program) → leb program.n.0 bad ≡ program_made program
-  words-decide few first = rw (le-leb _ _ few, ← first)
+  pub words_decide : program.n.0 ≤ 64 → {bad : ℕ} → bad ≡ first_bad (lines_of program) → leb program.n.0 bad ≡ program_made program
+  words_decide few first = rw (le-leb _ _ few, ← first)
 
 module _ (n count c : ℕ) {end : ℕ} (last : end ≡ last_of n) where
-  pub beyond-last : end < c → false ≡ numbers_made n count c
-  beyond-last h = rw (← last, lt-leb _ _ h)
+  pub beyond_last : end < c → false ≡ numbers_made n count c
+  beyond_last h = rw (← last, lt-leb _ _ h)
 
-  pub count-decides : c ≤ end → {reached : Count} → reached ≡ record { 0 = min c n } → eqb count reached.0 ≡ numbers_made n count c
-  count-decides h e = rw (← last, le-leb _ _ h, e)
+  pub count_decides : c ≤ end → {reached : Count} → reached ≡ record { 0 = min c n } → eqb count reached.0 ≡ numbers_made n count c
+  count_decides h e = rw (← last, le-leb _ _ h, e)
 
 -- ---- the count at a cycle
 
 module _ (n : Count) (c : ℕ) where
-  pub count-below : c < n.0 → ◌≡◌ {A = Count} (record { 0 = c }) (record { 0 = min c n.0 })
-  count-below h = let e : c ≡ min c n.0 = omega arith in λ i. record { 0 = e i }
+  pub count_below : c < n.0 → ◌≡◌ {A = Count} (record { 0 = c }) (record { 0 = min c n.0 })
+  count_below h = let e : c ≡ min c n.0 = omega arith in λ i. record { 0 = e i }
 
-  pub count-over : n.0 ≤ c → ◌≡◌ {A = Count} n (record { 0 = min c n.0 })
-  count-over h = let e : n.0 ≡ min c n.0 = omega arith in λ i. record { 0 = e i }
+  pub count_over : n.0 ≤ c → ◌≡◌ {A = Count} n (record { 0 = min c n.0 })
+  count_over h = let e : n.0 ≡ min c n.0 = omega arith in λ i. record { 0 = e i }

@@ -1,5 +1,7 @@
 // Whether a unit's record is well made, and whether the unit is drained.
 
+#![tactic(auto)]
+
 ghost use Rattle.std.specs.Prelude.{◌≡◌, get_or};
 ghost use Rattle.unit_rules.specs.Record.{all_empty, drained_of, latches_made, run_made, rest_made, well_made_of};
 ghost use Rattle.unit_rules.specs.Cycle.{fetched_in};

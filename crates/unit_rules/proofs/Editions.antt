@@ -10,10 +10,10 @@ use Rattle.job_rules.proofs.Theorems.{held_zero}
 use Rattle.unit_rules.specs.declared.Instruction.{Instruction}
 use Rattle.unit_rules.specs.declared.Operands.{Operands}
 use Rattle.unit_rules.specs.Settled.{settled_flight}
-use Rattle.unit_rules.proofs.Wired.{newest-of-0, left-by-WB}
-use Rattle.unit_rules.proofs.WellMade.{well-made-says}
+use Rattle.unit_rules.proofs.Wired.{newest_of_0, left_by_wb}
+use Rattle.unit_rules.proofs.WellMade.{well_made_says}
 use Rattle.unit_rules.proofs.Theorems.{go_keeps, kept_well_made, reached_well_made}
-use Rattle.unit_rules.proofs.Demand3.{demand3-unit, demand3-well-made}
+use Rattle.unit_rules.proofs.Demand3.{demand3_unit, demand3_well_made}
 
 -- ---- the first edition
 
@@ -35,25 +35,25 @@ edition_1_registers u v first program count cycle fetched decoded executed gone 
 
 module _ (u : Unit) (made : well_made_of u ≡ true) (second : u.program.edition ≡ Two) where
   pub register_0_zero : get_or u.registers 0 zero_register ≡ zero_register
-  register_0_zero = held_zero u.program.edition _ second (well-made-says u made).held
+  register_0_zero = held_zero u.program.edition _ second (well_made_says u made).held
 
   -- "a write to it is dropped": in every well-made record, whatever is latched
-  pub write-dropped : get_or (after_wb u.executed u.registers) 0 zero_register ≡ zero_register
-  write-dropped = left-by-WB u.program second (u.cycle - 2) u.executed (well-made-says u made).placed.in-EX/WB u.registers ∙ register_0_zero
+  pub write_dropped : get_or (after_wb u.executed u.registers) 0 zero_register ≡ zero_register
+  write_dropped = left_by_wb u.program second (u.cycle - 2) u.executed (well_made_says u made).placed.in_ex_wb u.registers ∙ register_0_zero
 
   -- "is not forwarded": where an operand is register 0, EX takes what is latched
-  pub not-forwarded : (reads : Bool) (p : Pointer) → p.0 ≡ 0 → (latched : Register) → newest u.executed reads p latched ≡ latched
-  not-forwarded reads p zeroth latched = newest-of-0 u.program second (u.cycle - 2) u.executed (well-made-says u made).placed.in-EX/WB reads p zeroth latched
+  pub not_forwarded : (reads : Bool) (p : Pointer) → p.0 ≡ 0 → (latched : Register) → newest u.executed reads p latched ≡ latched
+  not_forwarded reads p zeroth latched = newest_of_0 u.program second (u.cycle - 2) u.executed (well_made_says u made).placed.in_ex_wb reads p zeroth latched
 
   -- and what ID reads for it is zero
-  pub read-by-ID : (i : Instruction)
+  pub read_by_id : (i : Instruction)
       → (i.first.0 ≡ 0 → (operands_in i (after_wb u.executed u.registers)).first ≡ zero_register)
       × (i.second.0 ≡ 0 → (operands_in i (after_wb u.executed u.registers)).second ≡ zero_register)
       × (i.third.0 ≡ 0 → (operands_in i (after_wb u.executed u.registers)).third ≡ zero_register)
-  read-by-ID i = (at, at, at)
+  read_by_id i = (at, at, at)
     where
       at : {k : ℕ} → k ≡ 0 → get_or (after_wb u.executed u.registers) k zero_register ≡ zero_register
-      at zeroth = ap (λ (j : ℕ). get_or (after_wb u.executed u.registers) j zero_register) zeroth ∙ write-dropped
+      at zeroth = ap (λ (j : ℕ). get_or (after_wb u.executed u.registers) j zero_register) zeroth ∙ write_dropped
 
 -- after every call on a well-made unit, and so after any calls on a fresh one
 pub zero_after_every_call : (x : Call) (u : Unit) → well_made_of u ≡ true → (unit_after x u).program.edition ≡ Two
@@ -92,19 +92,19 @@ pub reads_zero : (u : Unit) → Whole u.registers → well_made_of u ≡ true �
     → (let v = after_calls c (go_of u).unit in
     (i : Instruction) (o : Operands) → v.decoded ≡ ID/EX.Holds i o
     → (i.first.0 ≡ 0 → (working v i o).first ≡ zero_register) × (i.second.0 ≡ 0 → (working v i o).second ≡ zero_register) × (i.third.0 ≡ 0 → (working v i o).third ≡ zero_register))
-reads_zero u whole made second c h i o e = (zeroed _ i.first o.first first, zeroed _ i.second o.second second-read, zeroed _ i.third o.third third)
+reads_zero u whole made second c h i o e = (zeroed _ i.first o.first first, zeroed _ i.second o.second second_read, zeroed _ i.third o.third third)
   where
     v : Unit
     v = after_calls c (go_of u).unit
 
     is : (let g = plain u.program.edition (take (c - 3) (lines_of u.program)) u.registers in v ≡ unit_with (go_of u).unit c g (settled_flight u.program c g))
-    is = demand3-unit u whole made c h
+    is = demand3_unit u whole made c h
 
-    v-made : well_made_of v ≡ true
-    v-made = demand3-well-made u whole made c h
+    v_made : well_made_of v ≡ true
+    v_made = demand3_well_made u whole made c h
 
-    v-second : v.program.edition ≡ Two
-    v-second = ap (λ (x : Unit). x.program.edition) is ∙ ap (λ (p : Program). p.edition) (go_keeps u).1 ∙ second
+    v_second : v.program.edition ≡ Two
+    v_second = ap (λ (x : Unit). x.program.edition) is ∙ ap (λ (p : Program). p.edition) (go_keeps u).1 ∙ second
 
     latched : o ≡ operands_in i v.registers
     latched = latched_is (fetched_in u.program (c - 1)) v.registers i o
@@ -113,16 +113,16 @@ reads_zero u whole made second c h i o e = (zeroed _ i.first o.first first, zero
     first : o.first ≡ get_or v.registers i.first.0 zero_register
     first = ap (λ (x : Operands). x.first) latched
 
-    second-read : o.second ≡ get_or v.registers i.second.0 zero_register
-    second-read = ap (λ (x : Operands). x.second) latched
+    second_read : o.second ≡ get_or v.registers i.second.0 zero_register
+    second_read = ap (λ (x : Operands). x.second) latched
 
     third : o.third ≡ get_or v.registers i.third.0 zero_register
     third = ap (λ (x : Operands). x.third) latched
 
     zeroed : (reads : Bool) (p : Pointer) (r : Register) → r ≡ get_or v.registers p.0 zero_register → p.0 ≡ 0 → newest v.executed reads p r ≡ zero_register
     zeroed reads p r read zeroth =
-        not-forwarded v v-made v-second reads p zeroth r
-        ∙ read ∙ ap (λ (k : ℕ). get_or v.registers k zero_register) zeroth ∙ register_0_zero v v-made v-second
+        not_forwarded v v_made v_second reads p zeroth r
+        ∙ read ∙ ap (λ (k : ℕ). get_or v.registers k zero_register) zeroth ∙ register_0_zero v v_made v_second
 
 -- "li's old value included": it is li's first operand, that of its rd
 pub li_reads_its_rd : (edition : Edition) (w : ℕ) → is_li w ≡ true → (instruction_of edition w).first ≡ rd_of w

@@ -8,7 +8,7 @@ use Rattle.unit_rules.proofs.Shared.{STATE, BUSY, target_of, first_bad, step_on,
 use Rattle.unit_rules.proofs.Shared.{read_of, lines_of, Unit, cycles_of, drained_of, well_made_of, registers_set, loaded_of, loaded_by, load_of, gone_of, go_of}
 use Rattle.unit_rules.proofs.Shared.{unit_with, Whole, Edition, One, Two, is_wired, cleared_for, registers_loaded, edition_in}
 use Rattle.table.proofs.Decided.{stops, passes, ends, each, none_refused, denied, not_denied}
-use Rattle.job_rules.proofs.Pieces.{length-pieces}
+use Rattle.job_rules.proofs.Pieces.{length_pieces}
 use Rattle.job_rules.proofs.Refusals.{accepted, read}
 use Rattle.unit_rules.specs.declared.Loaded.{Loaded}
 use Rattle.unit_rules.specs.Settled.{settled_flight}
@@ -45,8 +45,8 @@ sound_read file e =
     let a = accepted edition file e in
     let t = a.header in
     let at = registers_at edition (two_at file 0) in
-    let words = length-pieces (λ (m : List ℕ). word_at m 0) 4 (two_at file 0) (drop (instructions_at edition) file) in
-    let registers = length-pieces of_bytes 16 (two_at file 2) (drop at file) in
+    let words = length_pieces (λ (m : List ℕ). word_at m 0) 4 (two_at file 0) (drop (instructions_at edition) file) in
+    let registers = length_pieces of_bytes 16 (two_at file 2) (drop at file) in
     subst Sound (sym (ap (λ (r : ReadJob). r.job) (read edition file a)))
     (sound_job edition (words_in (two_at file 0) (drop (instructions_at edition) file)) (registers_of (two_at file 2) (drop at file))
     (omega (arith, words, t.few)) (omega (arith, words, a.good)) (omega (arith, registers, t.fewer)))
@@ -54,17 +54,17 @@ sound_read file e =
 -- ---- the tests of a load and of a go
 
 module _ (file : List ℕ) (u : Unit) where
-  pub load-ill-made : well_made_of u ≡ false → load_of file u ≡ record { refusal = STATE; place = 0; unit = u }
+  pub load_ill_made : well_made_of u ≡ false → load_of file u ≡ record { refusal = STATE; place = 0; unit = u }
   unfolding load_of
-  load-ill-made h = sym (stops _ _ (denied h))
+  load_ill_made h = sym (stops _ _ (denied h))
 
-  pub load-busy : well_made_of u ≡ true → drained_of u ≡ false → load_of file u ≡ record { refusal = BUSY; place = 0; unit = u }
+  pub load_busy : well_made_of u ≡ true → drained_of u ≡ false → load_of file u ≡ record { refusal = BUSY; place = 0; unit = u }
   unfolding load_of
-  load-busy made runs = sym (passes _ _ _ (not_denied made) (stops _ _ (denied runs)))
+  load_busy made runs = sym (passes _ _ _ (not_denied made) (stops _ _ (denied runs)))
 
-  pub load-reads : well_made_of u ≡ true → drained_of u ≡ true → load_of file u ≡ loaded_by (read_of file) u
+  pub load_reads : well_made_of u ≡ true → drained_of u ≡ true → load_of file u ≡ loaded_by (read_of file) u
   unfolding load_of
-  load-reads made done = sym (passes _ _ _ (not_denied made) (passes _ _ _ (not_denied done) ends))
+  load_reads made done = sym (passes _ _ _ (not_denied made) (passes _ _ _ (not_denied done) ends))
 
   -- what is known where it is accepted
   pub record Taken : Type 0 where
@@ -72,18 +72,18 @@ module _ (file : List ℕ) (u : Unit) where
     pub done : drained_of u ≡ true
     pub good : (read_of file).refusal ≡ 0
 
-  pub load-taken : (load_of file u).refusal ≡ 0 → Taken
+  pub load_taken : (load_of file u).refusal ≡ 0 → Taken
   unfolding load_of
-  load-taken e =
+  load_taken e =
       let passed = none_refused _ _ (λ (a : Loaded). a.refusal) refl e in
       let made = not-false _ passed.0 in
       let done = not-false _ passed.1.0 in
-      record { made = made; done = done; good = sym (ap (λ (a : Loaded). a.refusal) (load-reads made done)) ∙ e }
+      record { made = made; done = done; good = sym (ap (λ (a : Loaded). a.refusal) (load_reads made done)) ∙ e }
 
   pub load_sets : Taken → load_of file u ≡ record { refusal = 0; place = 0; unit = loaded_of (read_of file).job u }
   load_sets t =
       let is_read = read (edition_in file) file (accepted (edition_in file) file t.good) in
-      load-reads t.made t.done
+      load_reads t.made t.done
       ∙ rw (eq-eqb (read_of file).refusal 0 t.good)
       (λ i. record {
         refusal = t.good i;

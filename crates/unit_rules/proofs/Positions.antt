@@ -40,9 +40,9 @@ taken_apart (suc c) u =
 -- count and latches are where the cycle number puts them
 pub record Placed (u : Unit) : Type 0 where
   pub counted : u.count.0 ≡ min u.cycle u.program.n.0
-  pub in-IF/ID : u.fetched ≡ fetched_in u.program u.cycle
-  pub in-ID/EX : in_decoded u.decoded ≡ fetched_in u.program (u.cycle - 1)
-  pub in-EX/WB : in_executed u.executed ≡ fetched_in u.program (u.cycle - 2)
+  pub in_if_id : u.fetched ≡ fetched_in u.program u.cycle
+  pub in_id_ex : in_decoded u.decoded ≡ fetched_in u.program (u.cycle - 1)
+  pub in_ex_wb : in_executed u.executed ≡ fetched_in u.program (u.cycle - 2)
 
 -- ---- a cycle later
 
@@ -75,9 +75,9 @@ placed_cycle u h =
     let before-that : u.cycle - 1 ≡ u.cycle + 1 - 2 = omega arith in
     record {
       counted = rw h.counted (next_min u.program.n.0 u.cycle);
-      in-IF/ID = rw h.counted (fetch_min u.program u.cycle ∙ ap (fetched_in u.program) (sym (add-one u.cycle)));
-      in-ID/EX = id_keeps u.fetched _ ∙ h.in-IF/ID ∙ ap (fetched_in u.program) before;
-      in-EX/WB = ex_keeps u.executed u.decoded ∙ h.in-ID/EX ∙ ap (fetched_in u.program) before-that;
+      in_if_id = rw h.counted (fetch_min u.program u.cycle ∙ ap (fetched_in u.program) (sym (add-one u.cycle)));
+      in_id_ex = id_keeps u.fetched _ ∙ h.in_if_id ∙ ap (fetched_in u.program) before;
+      in_ex_wb = ex_keeps u.executed u.decoded ∙ h.in_id_ex ∙ ap (fetched_in u.program) before-that;
     }
 
 pub placed_cycles : (c : ℕ) (u : Unit) → Placed u → Placed (cycles_of c u)
@@ -101,15 +101,15 @@ emptied p c = leb p.n.0 (min c p.n.0) && all_empty (fetched_in p c) (fetched_in 
 
 drained_held : (u : Unit) → u.gone ≡ true → Placed u → drained_of u ≡ emptied u.program u.cycle
 unfolding drained_of emptied
-drained_held u went h = rw (went, h.counted, h.in-IF/ID, h.in-ID/EX, h.in-EX/WB)
+drained_held u went h = rw (went, h.counted, h.in_if_id, h.in_id_ex, h.in_ex_wb)
 
 -- c is past the last cycle; before n; or n, n + 1 or n + 2
 data Where (n c : ℕ) : Type 0 where
   past : n + 3 ≤ c → Where n c
   fetching : c < n → Where n c
-  at-0 : c ≡ n → Where n c
+  at_0 : c ≡ n → Where n c
   at_1 : c ≡ n + 1 → Where n c
-  at-2 : c ≡ n + 2 → Where n c
+  at_2 : c ≡ n + 2 → Where n c
 
 whereabouts : (n c : ℕ) → Where n c
 whereabouts n c = go (leb (n + 3) c) (ltb c n) (eqb c n) (eqb c (n + 1)) refl refl refl refl
@@ -117,10 +117,10 @@ whereabouts n c = go (leb (n + 3) c) (ltb c n) (eqb c n) (eqb c (n + 1)) refl re
     go : (s t x y : Bool) → leb (n + 3) c ≡ s → ltb c n ≡ t → eqb c n ≡ x → eqb c (n + 1) ≡ y → Where n c
     go true t x y qs qt qx qy = past (leb-true (n + 3) c qs)
     go false true x y qs qt qx qy = fetching (ltb-true c n qt)
-    go false false true y qs qt qx qy = at-0 (eqb-true c n qx)
+    go false false true y qs qt qx qy = at_0 (eqb-true c n qx)
     go false false false true qs qt qx qy = at_1 (eqb-true c (n + 1) qy)
     go false false false false qs qt qx qy =
-        at-2 (omega (arith, leb-false (n + 3) c qs, ltb-false c n qt, eqb-false c n qx, eqb-false c (n + 1) qy))
+        at_2 (omega (arith, leb-false (n + 3) c qs, ltb-false c n qt, eqb-false c n qx, eqb-false c (n + 1) qy))
 
 all_empty_lem : (edition : Edition) (words : List ℕ) (n c : ℕ) → emptied (record { words = words; n = record { 0 = n }; edition = edition }) c ≡ leb (last_of n) c
 unfolding emptied
@@ -144,9 +144,9 @@ all_empty_lem edition words (suc n) c = rw (ne_eqb (suc n) 0 (omega arith)) (go 
           nothing p (c - 2) (omega arith),
         )
     go (fetching h) = simp (lt-leb (suc n + 3) c (omega arith), lt-leb (suc n) (min c (suc n)) (omega arith))
-    go (at-0 h) = simp (lt-leb (suc n + 3) c (omega arith), something p c (omega arith) (omega arith), and-false)
+    go (at_0 h) = simp (lt-leb (suc n + 3) c (omega arith), something p c (omega arith) (omega arith), and-false)
     go (at_1 h) = simp (lt-leb (suc n + 3) c (omega arith), something p (c - 1) (omega arith) (omega arith), and-false)
-    go (at-2 h) = simp (lt-leb (suc n + 3) c (omega arith), something p (c - 2) (omega arith) (omega arith), and-false)
+    go (at_2 h) = simp (lt-leb (suc n + 3) c (omega arith), something p (c - 2) (omega arith) (omega arith), and-false)
 
 -- a unit that has gone is drained exactly from the last cycle on
 pub drained_is : (u : Unit) → u.gone ≡ true → Placed u → drained_of u ≡ leb (last_of u.program.n.0) u.cycle

@@ -43,9 +43,9 @@ ex_told p c f = ex_keeps EX/WB.Empty (after_id (fetched_in p (c - 2)) f) ∙ id_
 settled_placed : (u : Unit) → Settled u → Placed u
 settled_placed u e = record {
   counted = ap (λ (l : InFlight). l.count.0) e;
-  in-IF/ID = ap (λ (l : InFlight). l.fetched) e;
-  in-ID/EX = ap (λ (l : InFlight). in_decoded l.decoded) e ∙ id_told u.program u.cycle u.registers;
-  in-EX/WB = ap (λ (l : InFlight). in_executed l.executed) e ∙ ex_told u.program u.cycle u.registers;
+  in_if_id = ap (λ (l : InFlight). l.fetched) e;
+  in_id_ex = ap (λ (l : InFlight). in_decoded l.decoded) e ∙ id_told u.program u.cycle u.registers;
+  in_ex_wb = ap (λ (l : InFlight). in_executed l.executed) e ∙ ex_told u.program u.cycle u.registers;
 }
 
 -- ---- a settled unit stays so
@@ -63,21 +63,21 @@ module _ (u : Unit) (settled : Settled u) (whole : Whole u.registers) where
   abbrev next : ℕ → Slot Instruction
   next = behind machine (slot_of (fetched_in p (c - 2))) (slot_of (fetched_in p (c - 1))) (slot_of (fetched_in p c)) (stream p c)
 
-  next-reaches : (k : ℕ) → next k ≡ reaching p c k
-  next-reaches zero = let q : c - 2 ≡ c + 0 - 2 = omega arith in ap (λ (j : ℕ). slot_of (fetched_in p j)) q
-  next-reaches (suc zero) = let q : c - 1 ≡ c + 1 - 2 = omega arith in ap (λ (j : ℕ). slot_of (fetched_in p j)) q
-  next-reaches (suc (suc zero)) = let q : c ≡ c + 2 - 2 = omega arith in ap (λ (j : ℕ). slot_of (fetched_in p j)) q
-  next-reaches (suc (suc (suc k))) = let q : suc (c + k) ≡ c + suc (suc (suc k)) - 2 = omega arith in ap (λ (j : ℕ). slot_of (fetched_in p j)) q
+  next_reaches : (k : ℕ) → next k ≡ reaching p c k
+  next_reaches zero = let q : c - 2 ≡ c + 0 - 2 = omega arith in ap (λ (j : ℕ). slot_of (fetched_in p j)) q
+  next_reaches (suc zero) = let q : c - 1 ≡ c + 1 - 2 = omega arith in ap (λ (j : ℕ). slot_of (fetched_in p j)) q
+  next_reaches (suc (suc zero)) = let q : c ≡ c + 2 - 2 = omega arith in ap (λ (j : ℕ). slot_of (fetched_in p j)) q
+  next_reaches (suc (suc (suc k))) = let q : suc (c + k) ≡ c + suc (suc (suc k)) - 2 = omega arith in ap (λ (j : ℕ). slot_of (fetched_in p j)) q
 
-  good-next : (k : ℕ) → GoodIn machine Storable (next k)
-  good-next k = subst (GoodIn machine Storable) (sym (next-reaches k)) (good_fetched p (c + k - 2))
+  good_next : (k : ℕ) → GoodIn machine Storable (next k)
+  good_next k = subst (GoodIn machine Storable) (sym (next_reaches k)) (good_fetched p (c + k - 2))
 
   held : (t : ℕ) → (let x = reaching p c in pipe_of (cycles_of t u) ≡ holding machine (executed_all machine x t f) (x t) (x (suc t)) (x (suc (suc t))))
   held t =
       cycles_piped u (settled_placed u settled) t
       ∙ ap (cycled_all machine (stream p c) t) (ap (pipe_with f) settled ∙ settled_piped p c f)
-      ∙ held_on machine Storable Whole lawful (stream p c) f whole (slot_of (fetched_in p (c - 2))) (slot_of (fetched_in p (c - 1))) (slot_of (fetched_in p c)) good-next t
-      ∙ ap (λ (x : ℕ → Slot Instruction). holding machine (executed_all machine x t f) (x t) (x (suc t)) (x (suc (suc t)))) (λ i k. next-reaches k i)
+      ∙ held_on machine Storable Whole lawful (stream p c) f whole (slot_of (fetched_in p (c - 2))) (slot_of (fetched_in p (c - 1))) (slot_of (fetched_in p c)) good_next t
+      ∙ ap (λ (x : ℕ → Slot Instruction). holding machine (executed_all machine x t f) (x t) (x (suc t)) (x (suc (suc t)))) (λ i k. next_reaches k i)
 
   stays : (t : ℕ) → (let g = executed_all machine (reaching p c) t f in cycles_of t u ≡ unit_with u t g (settled_flight p (c + t) g))
   stays t =
@@ -105,23 +105,23 @@ many_more : (c t k : ℕ) → c + t - 2 ≡ suc k → many c (suc t) ≡ suc (ma
 many_more c t k q = omega arith
 
 module _ (p : Program) (enough : p.n.0 ≤ length p.words) (c : ℕ) (f : List Register) where
-  abbrev behind-those : List ℕ
-  behind-those = drop (c - 3) (lines_of p)
+  abbrev behind_those : List ℕ
+  behind_those = drop (c - 3) (lines_of p)
 
-  size : length behind-those ≡ p.n.0 - (c - 3)
+  size : length behind_those ≡ p.n.0 - (c - 3)
   size = length-drop (c - 3) (lines_of p) ∙ ap (λ (l : ℕ). l - (c - 3)) (length-take-le p.n.0 p.words enough)
 
   abbrev completed : ℕ → List Register
-  completed t = plain p.edition (take (many c t) behind-those) f
+  completed t = plain p.edition (take (many c t) behind_those) f
 
-  one-completed : (t : ℕ) → executed machine (reaching p c t) (completed t) ≡ completed (suc t)
+  one_completed : (t : ℕ) → executed machine (reaching p c t) (completed t) ≡ completed (suc t)
   unfolding step_on
-  one-completed t = go (c + t - 2) refl
+  one_completed t = go (c + t - 2) refl
     where
-      inside : (k : ℕ) → c - 3 + many c t ≡ k → k < p.n.0 → many c t < length behind-those
+      inside : (k : ℕ) → c - 3 + many c t ≡ k → k < p.n.0 → many c t < length behind_those
       inside k at below = rw size (omega arith)
 
-      outside : (k : ℕ) → c - 3 + many c t ≡ k → p.n.0 ≤ k → length behind-those ≤ many c t
+      outside : (k : ℕ) → c - 3 + many c t ≡ k → p.n.0 ≤ k → length behind_those ≤ many c t
       outside k at beyond = rw size (omega arith)
 
       line : (k : ℕ) → c + t - 2 ≡ suc k → (b : Bool) → ltb k p.n.0 ≡ b
@@ -129,23 +129,23 @@ module _ (p : Program) (enough : p.n.0 ≤ length p.words) (c : ℕ) (f : List R
       line k q true l =
           let below = ltb-true k p.n.0 l in
           let at = many_at c t k q in
-          sym (ap (λ (j : ℕ). plain p.edition (take j behind-those) f) (many_more c t k q)
-          ∙ one_more p.edition behind-those (many c t) f (inside k at below)
+          sym (ap (λ (j : ℕ). plain p.edition (take j behind_those) f) (many_more c t k q)
+          ∙ one_more p.edition behind_those (many c t) f (inside k at below)
           ∙ ap (λ (w : ℕ). step p.edition w (completed t))
           (get_or-drop (c - 3) (lines_of p) (many c t) 0 ∙ ap (λ (j : ℕ). get_or (lines_of p) j 0) at ∙ get_or-take p.n.0 p.words k 0 below))
       line k q false l =
           let few = outside k (many_at c t k q) (ltb-false k p.n.0 l) in
           let more = many_more c t k q in
-          ap (λ (w : List ℕ). plain p.edition w f) (take_all (many c t) behind-those few ∙ sym (take_all (many c (suc t)) behind-those (omega arith)))
+          ap (λ (w : List ℕ). plain p.edition w f) (take_all (many c t) behind_those few ∙ sym (take_all (many c (suc t)) behind_those (omega arith)))
 
       go : (j : ℕ) → c + t - 2 ≡ j → executed machine (slot_of (fetched_in p j)) (completed t) ≡ completed (suc t)
-      go zero q = let none : many c t ≡ many c (suc t) = omega arith in ap (λ (j : ℕ). plain p.edition (take j behind-those) f) none
+      go zero q = let none : many c t ≡ many c (suc t) = omega arith in ap (λ (j : ℕ). plain p.edition (take j behind_those) f) none
       go (suc k) q = line k q (ltb k p.n.0) refl
 
-  all-completed : (t : ℕ) → executed_all machine (reaching p c) t f ≡ completed t
+  all_completed : (t : ℕ) → executed_all machine (reaching p c) t f ≡ completed t
   unfolding plain_on
-  all-completed zero = let none : many c 0 ≡ 0 = omega arith in rw none
-  all-completed (suc t) = ap (executed machine (reaching p c t)) (all-completed t) ∙ one-completed t
+  all_completed zero = let none : many c 0 ≡ 0 = omega arith in rw none
+  all_completed (suc t) = ap (executed machine (reaching p c t)) (all_completed t) ∙ one_completed t
 
 -- t cycles on, a settled unit has the registers that the plain machine leaves after the lines that complete, and these tell what is in flight
 pub settled_on : (u : Unit) → Settled u → Whole u.registers → u.program.n.0 ≤ length u.program.words → (t : ℕ)
@@ -153,16 +153,16 @@ pub settled_on : (u : Unit) → Settled u → Whole u.registers → u.program.n.
     cycles_of t u ≡ unit_with u t g (settled_flight u.program (u.cycle + t) g))
 settled_on u settled whole enough t =
     stays u settled whole t
-    ∙ ap (λ (g : List Register). unit_with u t g (settled_flight u.program (u.cycle + t) g)) (all-completed u.program enough u.cycle u.registers t)
+    ∙ ap (λ (g : List Register). unit_with u t g (settled_flight u.program (u.cycle + t) g)) (all_completed u.program enough u.cycle u.registers t)
 
 -- ---- what is settled
 
 good_decoded : (u : Unit) → Placed u → GoodIn machine Storable (instr_in machine (slot_of_id_ex u.decoded))
-good_decoded u h = subst (GoodIn machine Storable) (sym (as-held u.decoded ∙ ap slot_of h.in-ID/EX)) (good_fetched u.program (u.cycle - 1))
+good_decoded u h = subst (GoodIn machine Storable) (sym (as_held u.decoded ∙ ap slot_of h.in_id_ex)) (good_fetched u.program (u.cycle - 1))
   where
-    as-held : (y : IdEx) → instr_in machine (slot_of_id_ex y) ≡ slot_of (in_decoded y)
-    as-held ID/EX.Empty = refl
-    as-held (ID/EX.Holds i o) = refl
+    as_held : (y : IdEx) → instr_in machine (slot_of_id_ex y) ≡ slot_of (in_decoded y)
+    as_held ID/EX.Empty = refl
+    as_held (ID/EX.Holds i o) = refl
 
 -- from a go on
 pub gone_settled : (u : Unit) → Settled (gone_of u)
@@ -184,10 +184,10 @@ settled_early u h early =
     let p = u.program in
     let first : u.cycle - 1 ≡ 0 = omega arith in
     let second : u.cycle - 2 ≡ 0 = omega arith in
-    let decoded = nothing_decoded u.decoded (h.in-ID/EX ∙ ap (fetched_in p) first) ∙ ap (λ (c : ℕ). after_id (fetched_in p c) u.registers) (sym first) in
-    let executed = nothing_executed u.executed (h.in-EX/WB ∙ ap (fetched_in p) second)
+    let decoded = nothing_decoded u.decoded (h.in_id_ex ∙ ap (fetched_in p) first) ∙ ap (λ (c : ℕ). after_id (fetched_in p c) u.registers) (sym first) in
+    let executed = nothing_executed u.executed (h.in_ex_wb ∙ ap (fetched_in p) second)
     ∙ ap (λ (c : ℕ). after_ex EX/WB.Empty (after_id (fetched_in p c) u.registers)) (sym second) in
-    λ i. record { count = record { 0 = h.counted i }; fetched = h.in-IF/ID i; decoded = decoded i; executed = executed i }
+    λ i. record { count = record { 0 = h.counted i }; fetched = h.in_if_id i; decoded = decoded i; executed = executed i }
 
 -- two cycles after any record whose count and latches are where its cycle number puts them, whatever values were latched
 pub settled_in_two : (u : Unit) → Placed u → Whole u.registers → Settled (cycles_of 2 u)
@@ -203,7 +203,7 @@ settled_in_two u h whole =
     let in-ID : suc (u.cycle + 0) ≡ v.cycle - 1 = omega arith in
     let in-IF : suc (u.cycle + 1) ≡ v.cycle = omega arith in
     let same = sym (cycles_program 2 u) in
-    let waiting = ap slot_of h.in-IF/ID ∙ (λ i. slot_of (fetched_in (same i) (in-EX i))) in
+    let waiting = ap slot_of h.in_if_id ∙ (λ i. slot_of (fetched_in (same i) (in-EX i))) in
     same_flight (in_flight_of v) (settled_flight v.program v.cycle v.registers) v.registers v.registers (placed_cycles 2 u h).counted
     (piped ∙ told ∙ (λ i. holding machine (file i) (waiting i) (slot_of (fetched_in (same i) (in-ID i))) (slot_of (fetched_in (same i) (in-IF i))))
     ∙ sym (settled_piped v.program v.cycle v.registers))

@@ -4,7 +4,7 @@
 use Rattle.unit_rules.proofs.Shared.{ℕ, zero, suc, ◌+◌, ◌≤◌, ◌<◌, ◌≡◌, refl, sym, ap, subst, ◌∙◌, ◌↔◌, Bool, true, false, cond, not, ◌&&◌, ◌||◌, List}
 use Rattle.unit_rules.proofs.Shared.{arith, lt-ltb, le-ltb, leb-true, le-leb, eq-eqb, eqb-false, leb, eqb, get_or, length-replicate, Register, zero_register, STATE, DRAINED}
 use Rattle.unit_rules.proofs.Shared.{first_bad, lines_of, may_hold, IdEx, ExWb, Unit, Whole, in_decoded, in_executed, is_empty, all_empty, cycle_of}
-use Rattle.unit_rules.proofs.Shared.{Cycled, Ran, drained_of, well_made_of, fresh_of, load_of, go_of, cycled_of, goes_on, ran_of, register_of, asked_drained}
+use Rattle.unit_rules.proofs.Shared.{Cycled, Ran, drained_of, well_made_of, fresh_of, load_of, go_of, cycled_of, goes_on_lem, ran_of, register_of, asked_drained}
 use Rattle.unit_rules.proofs.Shared.{Call, unit_after, made_unless, cycles_in, renews, unit_after_all}
 use Rattle.unit_rules.proofs.Shared.IF/ID
 use Rattle.unit_rules.proofs.Shared.ID/EX
@@ -19,13 +19,13 @@ use Rattle.unit_rules.specs.Sequence.Call.{load, go, cycle, row, run, register, 
 use Rattle.table.proofs.Rows.{all_alike}
 use Rattle.unit_rules.proofs.Positions.{drained_loaded}
 use Rattle.unit_rules.proofs.Settled.{nothing_decoded, nothing_executed}
-use Rattle.unit_rules.proofs.WellMade.{WellMade, well-made-says, well-made-test, rest-test, both, empty_held}
-use Rattle.unit_rules.proofs.Loading.{load-ill-made, load_refused, go_ill_made}
-use Rattle.unit_rules.proofs.Calls.{cycle-of-drained, run-of-drained, well-made-after, kept_made}
+use Rattle.unit_rules.proofs.WellMade.{WellMade, well_made_says, well_made_test, rest_test, both, empty_held}
+use Rattle.unit_rules.proofs.Loading.{load_ill_made, load_refused, go_ill_made}
+use Rattle.unit_rules.proofs.Calls.{cycle_of_drained, run_of_drained, well_made_after, kept_made}
 
 -- the test holds exactly of what the documents call well made
 pub well_made_exactly : (u : Unit) → (well_made_of u ≡ true) ↔ WellMade u
-well_made_exactly u = (well-made-says u, well-made-test u)
+well_made_exactly u = (well_made_says u, well_made_test u)
 
 -- u with other contents of ID/EX and EX/WB
 abbrev latching : IdEx → ExWb → Unit → Unit
@@ -90,10 +90,10 @@ pub well_made_loaded : (u : Unit) → u.gone ≡ false
 unfolding well_made_of
 well_made_loaded u still = (
   λ e.
-      let w = well-made-says u e in
-      let at-0 = w.resting still in
-      let empty = (both (eqb u.count.0 0 && eqb u.cycle 0) (all_empty u.fetched (in_decoded u.decoded) (in_executed u.executed)) (rest-test u at-0 w.placed)).1 in
-      (w.few, w.good, w.held, omega (arith, w.placed.counted), at-0, (nothing_held u).0 empty),
+      let w = well_made_says u e in
+      let at_0 = w.resting still in
+      let empty = (both (eqb u.count.0 0 && eqb u.cycle 0) (all_empty u.fetched (in_decoded u.decoded) (in_executed u.executed)) (rest_test u at_0 w.placed)).1 in
+      (w.few, w.good, w.held, omega (arith, w.placed.counted), at_0, (nothing_held u).0 empty),
   λ h. rw (still, le-leb _ _ h.0, le-leb _ _ h.1, h.2, eq-eqb _ _ h.3, eq-eqb _ _ h.4) ((nothing_held u).1 h.5),
 )
 
@@ -105,7 +105,7 @@ pub drained_until_it_goes : (u : Unit) → well_made_of u ≡ true → u.gone �
 unfolding asked_drained
 drained_until_it_goes u w still =
     let done = drained_loaded u still in
-    (sym (passes _ _ _ (not_denied w) (rw done ends)), cycle-of-drained u w done, run-of-drained u w done)
+    (sym (passes _ _ _ (not_denied w) (rw done ends)), cycle_of_drained u w done, run_of_drained u w done)
 
 -- Once it has, it "is drained when the count has reached n and all latches are empty": so it is answered, and only so
 pub drained_exactly : (u : Unit) → well_made_of u ≡ true → u.gone ≡ true
@@ -150,18 +150,18 @@ run_refused u k = each Kept _ _ (λ h. refl, tt) (λ h. absurd (h refl))
 
 -- a cycle that is not made, and a run of none, leave the unit
 cycle_keeps : (u : Unit) → cycles_in cycle u ≡ 0 → (cycled_of u).unit ≡ u
-cycle_keeps u m = cycle_refused u (λ e. absurd (one-not-none (sym (ap made_unless e) ∙ m)))
+cycle_keeps u m = cycle_refused u (λ e. absurd (one_not_none (sym (ap made_unless e) ∙ m)))
   where
-    one-not-none : ◌≡◌ {A = ℕ} 1 0 → ⊥
-    one-not-none e = omega arith
+    one_not_none : ◌≡◌ {A = ℕ} 1 0 → ⊥
+    one_not_none e = omega arith
 
-none_gone : (k : ℕ) (u : Unit) → (goes_on k u).0 ≡ 0 → (goes_on k u).1 ≡ u
-unfolding goes_on
+none_gone : (k : ℕ) (u : Unit) → (goes_on_lem k u).0 ≡ 0 → (goes_on_lem k u).1 ≡ u
+unfolding goes_on_lem
 none_gone zero u m = refl
 none_gone (suc k) u m = case (drained_of u) m
   where
-    case : (t : Bool) → (cond {A = ℕ × Unit} t (0, u) ((goes_on k (cycle_of u)).0 + 1, (goes_on k (cycle_of u)).1)).0 ≡ 0
-        → (cond {A = ℕ × Unit} t (0, u) ((goes_on k (cycle_of u)).0 + 1, (goes_on k (cycle_of u)).1)).1 ≡ u
+    case : (t : Bool) → (cond {A = ℕ × Unit} t (0, u) ((goes_on_lem k (cycle_of u)).0 + 1, (goes_on_lem k (cycle_of u)).1)).0 ≡ 0
+        → (cond {A = ℕ × Unit} t (0, u) ((goes_on_lem k (cycle_of u)).0 + 1, (goes_on_lem k (cycle_of u)).1)).1 ≡ u
     case true m = refl
     case false m = absurd (omega arith)
 
@@ -174,7 +174,7 @@ run_keeps u k = each Kept _ _ (λ h. refl, tt) (none_gone k u)
 
 -- every call leaves a well-made unit well made, and so are all units that calls make of a fresh one
 pub kept_well_made : (x : Call) (u : Unit) → well_made_of u ≡ true → well_made_of (unit_after x u) ≡ true
-kept_well_made x u w = well-made-after u w x
+kept_well_made x u w = well_made_after u w x
 
 pub reached_well_made : (calls : List Call) → well_made_of (unit_after_all calls fresh_of) ≡ true
 reached_well_made calls = kept_made calls fresh_of fresh_drained.1
@@ -208,4 +208,4 @@ pub ill_made_refused : (u : Unit) → well_made_of u ≡ false
     × (◌≡◌ {A = Drained} (asked_drained u) (record { refusal = STATE; drained = false }))
 unfolding cycled_of ran_of register_of asked_drained
 ill_made_refused u h =
-    let refused = denied h in (λ file. load-ill-made file u h, go_ill_made u h, sym (stops _ _ refused), λ k. sym (stops _ _ refused), λ i. sym (stops _ _ refused), sym (stops _ _ refused))
+    let refused = denied h in (λ file. load_ill_made file u h, go_ill_made u h, sym (stops _ _ refused), λ k. sym (stops _ _ refused), λ i. sym (stops _ _ refused), sym (stops _ _ refused))

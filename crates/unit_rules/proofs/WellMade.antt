@@ -4,7 +4,7 @@ use mathlib.Core.Bool.{and-eq-true_iff}
 use Rattle.unit_rules.proofs.Shared.{ℕ, zero, suc, ◌+◌, ◌-◌, ◌≤◌, ◌<◌, min, ◌≡◌, refl, sym, ap, ◌∙◌, Bool, true, false, cond, ◌&&◌, false≢true}
 use Rattle.unit_rules.proofs.Shared.{add-zero, add-suc, arith, le-leb, leb-true, leb-false, eqb-true, eq-eqb, eqb, leb, Target, None, To}
 use Rattle.unit_rules.proofs.Shared.{get_or, zero_register, may_hold, first_bad, List, Register, Program, lines_of, IfId, Unit, fetched_in, cycle_of, cycles_of, in_decoded, in_executed, is_empty, all_empty, drained_of, last_of}
-use Rattle.unit_rules.proofs.Shared.{same_target, same_instruction, same_held, program_made, numbers_made, run_made, rest_made, well_made_of, begun_of, goes_on}
+use Rattle.unit_rules.proofs.Shared.{same_target_lem, same_instruction, same_held, program_made, numbers_made, run_made, rest_made, well_made_of, begun_of, goes_on_lem}
 use Rattle.unit_rules.proofs.Shared.IF/ID
 use Rattle.unit_rules.specs.declared.Instruction.{Instruction}
 use Rattle.unit_rules.proofs.Wired.{cycles_held}
@@ -29,19 +29,19 @@ both a b e = (and-eq-true_iff a b).0 e
 and_true : {a b : Bool} → a ≡ true → b ≡ true → (a && b) ≡ true
 and_true e f = rw (e, f)
 
-same_target_lem : (a b : Target) → same_target a b ≡ true → a ≡ b
+same_target_lem : (a b : Target) → same_target_lem a b ≡ true → a ≡ b
 same_target_lem None None e = refl
 same_target_lem None (To q) e = absurd (false≢true e)
 same_target_lem (To p) None e = absurd (false≢true e)
 same_target_lem (To p) (To q) e = ap (λ (k : ℕ). To (record { 0 = k })) (eqb-true p.0 q.0 e)
 
-target_itself : (a : Target) → same_target a a ≡ true
+target_itself : (a : Target) → same_target_lem a a ≡ true
 target_itself None = refl
 target_itself (To p) = eq-eqb p.0 p.0 refl
 
 same_instruction_lem : (i j : Instruction) → same_instruction i j ≡ true → i ≡ j
 same_instruction_lem i j e =
-    let a = both _ (same_target i.target j.target) e in
+    let a = both _ (same_target_lem i.target j.target) e in
     let b = both _ (eqb i.third.0 j.third.0) a.0 in
     let c = both _ (eqb i.second.0 j.second.0) b.0 in
     let d = both (eqb i.word j.word) (eqb i.first.0 j.first.0) c.0 in
@@ -92,39 +92,39 @@ module _ (u : Unit) where
       (rest_made u.count.0 u.cycle u.fetched (in_decoded u.decoded) (in_executed u.executed))
 
   -- of a unit that has gone
-  run-says : made true ≡ true → (u.cycle ≤ last_of n) × Placed u
-  run-says e =
+  run_says : made true ≡ true → (u.cycle ≤ last_of n) × Placed u
+  run_says e =
       let split = both (numbers_made n u.count.0 u.cycle) _ e in
       let a = both (leb u.cycle (last_of n)) (eqb u.count.0 (min u.cycle n)) split.0 in
       let x = both _ (same_held (in_executed u.executed) (fetched_in u.program (u.cycle - 2))) split.1 in
       let y = both (same_held u.fetched (fetched_in u.program u.cycle)) (same_held (in_decoded u.decoded) (fetched_in u.program (u.cycle - 1))) x.0 in (
         leb-true _ _ a.0,
-        record { counted = eqb-true _ _ a.1; in-IF/ID = same_held_lem _ _ y.0; in-ID/EX = same_held_lem _ _ y.1; in-EX/WB = same_held_lem _ _ x.1 },
+        record { counted = eqb-true _ _ a.1; in_if_id = same_held_lem _ _ y.0; in_id_ex = same_held_lem _ _ y.1; in_ex_wb = same_held_lem _ _ x.1 },
       )
 
   -- of one that has not
-  rest-says : made false ≡ true → (u.cycle ≡ 0) × Placed u
-  rest-says e =
+  rest_says : made false ≡ true → (u.cycle ≡ 0) × Placed u
+  rest_says e =
       let split = both _ (all_empty u.fetched (in_decoded u.decoded) (in_executed u.executed)) e in
       let a = both (eqb u.count.0 0) (eqb u.cycle 0) split.0 in
       let x = both _ (is_empty (in_executed u.executed)) split.1 in
       let y = both (is_empty u.fetched) (is_empty (in_decoded u.decoded)) x.0 in
       let none = eqb-true u.count.0 0 a.0 in
-      let at-0 = eqb-true u.cycle 0 a.1 in
+      let at_0 = eqb-true u.cycle 0 a.1 in
       let before : 0 ≡ u.cycle - 1 = omega arith in
       let before-that : 0 ≡ u.cycle - 2 = omega arith in (
-        at-0,
+        at_0,
         record {
           counted = omega arith;
-          in-IF/ID = empty_held _ y.0 ∙ ap (fetched_in u.program) (sym at-0);
-          in-ID/EX = empty_held _ y.1 ∙ ap (fetched_in u.program) before;
-          in-EX/WB = empty_held _ x.1 ∙ ap (fetched_in u.program) before-that;
+          in_if_id = empty_held _ y.0 ∙ ap (fetched_in u.program) (sym at_0);
+          in_id_ex = empty_held _ y.1 ∙ ap (fetched_in u.program) before;
+          in_ex_wb = empty_held _ x.1 ∙ ap (fetched_in u.program) before-that;
         },
       )
 
-  pub well-made-says : well_made_of u ≡ true → WellMade u
+  pub well_made_says : well_made_of u ≡ true → WellMade u
   unfolding well_made_of
-  well-made-says e =
+  well_made_says e =
       let split = both (program_made u.program && holds) _ e in
       let first = both (program_made u.program) holds split.0 in
       let few = both (leb n 64) (leb n (first_bad (lines_of u.program))) first.0 in
@@ -132,33 +132,33 @@ module _ (u : Unit) where
     where
       go : (t : Bool) → u.gone ≡ t → n ≤ 64 → n ≤ first_bad (lines_of u.program) → holds ≡ true → made t ≡ true → WellMade u
       go true q few good held e =
-          let s = run-says e in record { few = few; good = good; held = held; reached = s.0; placed = s.1; resting = λ still. absurd (false≢true (sym still ∙ q)) }
+          let s = run_says e in record { few = few; good = good; held = held; reached = s.0; placed = s.1; resting = λ still. absurd (false≢true (sym still ∙ q)) }
       go false q few good held e =
-          let s = rest-says e in record { few = few; good = good; held = held; reached = omega (arith, s.0); placed = s.1; resting = λ still. s.0 }
+          let s = rest_says e in record { few = few; good = good; held = held; reached = omega (arith, s.0); placed = s.1; resting = λ still. s.0 }
 
-  run-test : u.cycle ≤ last_of n → Placed u → made true ≡ true
-  run-test reached p =
+  run_test : u.cycle ≤ last_of n → Placed u → made true ≡ true
+  run_test reached p =
       and_true
       (and_true (le-leb _ _ reached) (eq-eqb _ _ p.counted))
-      (and_true (and_true (held_same p.in-IF/ID) (held_same p.in-ID/EX)) (held_same p.in-EX/WB))
+      (and_true (and_true (held_same p.in_if_id) (held_same p.in_id_ex)) (held_same p.in_ex_wb))
 
-  pub rest-test : u.cycle ≡ 0 → Placed u → made false ≡ true
-  rest-test at-0 p =
+  pub rest_test : u.cycle ≡ 0 → Placed u → made false ≡ true
+  rest_test at_0 p =
       let before : u.cycle - 1 ≡ 0 = omega arith in
       let before-that : u.cycle - 2 ≡ 0 = omega arith in
       and_true
-      (and_true (eq-eqb u.count.0 0 (omega (arith, p.counted))) (eq-eqb u.cycle 0 at-0))
+      (and_true (eq-eqb u.count.0 0 (omega (arith, p.counted))) (eq-eqb u.cycle 0 at_0))
       (and_true
-      (and_true (ap is_empty (p.in-IF/ID ∙ ap (fetched_in u.program) at-0)) (ap is_empty (p.in-ID/EX ∙ ap (fetched_in u.program) before)))
-      (ap is_empty (p.in-EX/WB ∙ ap (fetched_in u.program) before-that)))
+      (and_true (ap is_empty (p.in_if_id ∙ ap (fetched_in u.program) at_0)) (ap is_empty (p.in_id_ex ∙ ap (fetched_in u.program) before)))
+      (ap is_empty (p.in_ex_wb ∙ ap (fetched_in u.program) before-that)))
 
-  pub well-made-test : WellMade u → well_made_of u ≡ true
+  pub well_made_test : WellMade u → well_made_of u ≡ true
   unfolding well_made_of
-  well-made-test w = and_true (and_true (and_true (le-leb _ _ w.few) (le-leb _ _ w.good)) w.held) (go u.gone refl)
+  well_made_test w = and_true (and_true (and_true (le-leb _ _ w.few) (le-leb _ _ w.good)) w.held) (go u.gone refl)
     where
       go : (t : Bool) → u.gone ≡ t → made t ≡ true
-      go true q = run-test w.reached w.placed
-      go false q = rest-test (w.resting q) w.placed
+      go true q = run_test w.reached w.placed
+      go false q = rest_test (w.resting q) w.placed
 
 -- "67 at most"
 pub last_small : (u : Unit) → well_made_of u ≡ true → last_of u.program.n.0 ≤ 67
@@ -166,7 +166,7 @@ last_small u made = go (eqb u.program.n.0 0)
   where
     go : (t : Bool) → cond t 0 (u.program.n.0 + 3) ≤ 67
     go true = omega arith
-    go false = omega (arith, (well-made-says u made).few)
+    go false = omega (arith, (well_made_says u made).few)
 
 -- a unit that has made a cycle has gone
 pub gone_later : (u : Unit) → WellMade u → 0 < u.cycle → u.gone ≡ true
@@ -181,7 +181,7 @@ well_made_begun gone program registers few good held = record {
   good = good;
   held = held;
   reached = omega arith;
-  placed = record { counted = omega arith; in-IF/ID = refl; in-ID/EX = refl; in-EX/WB = refl };
+  placed = record { counted = omega arith; in_if_id = refl; in_id_ex = refl; in_ex_wb = refl };
   resting = λ still. refl;
 }
 
@@ -207,13 +207,13 @@ cycles_join c (suc d) u = rw (add-suc c d) (ap cycle_of (cycles_join c d u))
 abbrev pub left_of : Unit → ℕ
 left_of u = last_of u.program.n.0 - u.cycle
 
-pub goes_on_lem : (k : ℕ) (u : Unit) → u.gone ≡ true → Placed u → goes_on k u ≡ (min k (left_of u), cycles_of (min k (left_of u)) u)
-unfolding goes_on cycles_of cycle_of
+pub goes_on_lem : (k : ℕ) (u : Unit) → u.gone ≡ true → Placed u → goes_on_lem k u ≡ (min k (left_of u), cycles_of (min k (left_of u)) u)
+unfolding goes_on_lem cycles_of cycle_of
 goes_on_lem zero u went h = let m : min zero (left_of u) ≡ 0 = omega arith in rw m
 goes_on_lem (suc k) u went h = go (drained_of u) refl (goes_on_lem k (cycle_of u) went (placed_cycle u h))
   where
-    go : (t : Bool) → drained_of u ≡ t → goes_on k (cycle_of u) ≡ (min k (left_of (cycle_of u)), cycles_of (min k (left_of (cycle_of u))) (cycle_of u))
-        → ◌≡◌ {A = ℕ × Unit} (cond t (0, u) ((goes_on k (cycle_of u)).0 + 1, (goes_on k (cycle_of u)).1)) (min (suc k) (left_of u), cycles_of (min (suc k) (left_of u)) u)
+    go : (t : Bool) → drained_of u ≡ t → goes_on_lem k (cycle_of u) ≡ (min k (left_of (cycle_of u)), cycles_of (min k (left_of (cycle_of u))) (cycle_of u))
+        → ◌≡◌ {A = ℕ × Unit} (cond t (0, u) ((goes_on_lem k (cycle_of u)).0 + 1, (goes_on_lem k (cycle_of u)).1)) (min (suc k) (left_of u), cycles_of (min (suc k) (left_of u)) u)
     go true q later =
         let last = leb-true (last_of u.program.n.0) u.cycle (sym (drained_is u went h) ∙ q) in
         let m : min (suc k) (left_of u) ≡ 0 = omega arith in

@@ -33,22 +33,22 @@ not_the_target : (w : ℕ) (q : Pointer) → q.0 ≡ 0 → is_target (target_of 
 not_the_target w q e = each_target (λ (t : Target). is_target t q ≡ false) Two w refl (λ free. rw e free)
 
 module _ (p : Program) (second : p.edition ≡ Two) (c : ℕ) where
-  pub not-0 : (i : Instruction) → IF/ID.Holds i ≡ fetched_in p c → (q : Pointer) → q.0 ≡ 0 → is_target i.target q ≡ false
-  not-0 i e q z =
+  pub not_0 : (i : Instruction) → IF/ID.Holds i ≡ fetched_in p c → (q : Pointer) → q.0 ≡ 0 → is_target i.target q ≡ false
+  not_0 i e q z =
       let line = fetched_line p c i e in
       ap (λ (j : Instruction). is_target j.target q) line.1
       ∙ ap (λ (edition : Edition). is_target (target_of edition (get_or p.words line.0 0)) q) second
       ∙ not_the_target (get_or p.words line.0 0) q z
 
   -- so EX takes nothing for it from WB
-  pub newest-of-0 : (x : ExWb) → in_executed x ≡ fetched_in p c → (reads : Bool) (q : Pointer) → q.0 ≡ 0 → (latched : Register) → newest x reads q latched ≡ latched
-  newest-of-0 EX/WB.Empty e reads q z latched = refl
-  newest-of-0 (EX/WB.Holds i o) e reads q z latched = rw (not-0 i e q z, and-false reads)
+  pub newest_of_0 : (x : ExWb) → in_executed x ≡ fetched_in p c → (reads : Bool) (q : Pointer) → q.0 ≡ 0 → (latched : Register) → newest x reads q latched ≡ latched
+  newest_of_0 EX/WB.Empty e reads q z latched = refl
+  newest_of_0 (EX/WB.Holds i o) e reads q z latched = rw (not_0 i e q z, and-false reads)
 
   -- and WB leaves it as it was
-  pub left-by-WB : (x : ExWb) → in_executed x ≡ fetched_in p c → (f : List Register) → get_or (after_wb x f) 0 zero_register ≡ get_or f 0 zero_register
-  left-by-WB EX/WB.Empty e f = refl
-  left-by-WB (EX/WB.Holds i o) e f =
+  pub left_by_wb : (x : ExWb) → in_executed x ≡ fetched_in p c → (f : List Register) → get_or (after_wb x f) 0 zero_register ≡ get_or f 0 zero_register
+  left_by_wb EX/WB.Empty e f = refl
+  left_by_wb (EX/WB.Holds i o) e f =
       let line = fetched_line p c i e in
       ap (λ (j : Instruction). get_or (stored j.target o.value f) 0 zero_register) line.1
       ∙ ap (λ (edition : Edition). get_or (stored (target_of edition (get_or p.words line.0 0)) o.value f) 0 zero_register) second
@@ -81,5 +81,5 @@ cycles_held (suc c) u h =
     let v : Unit = cycles_of c u in
     let same = cycles_program c u in
     held_later u.program.edition
-    (λ second. left-by-WB v.program (ap (λ (p : Program). p.edition) same ∙ second) (v.cycle - 2) v.executed (placed_cycles c u h).in-EX/WB v.registers)
+    (λ second. left_by_wb v.program (ap (λ (p : Program). p.edition) same ∙ second) (v.cycle - 2) v.executed (placed_cycles c u h).in_ex_wb v.registers)
     ∙ cycles_held c u h

@@ -1,13 +1,15 @@
 // The unit's record and what its calls answer. What a load, a go, a cycle and the other calls make of it is defined in `specs/`; demand 3 is in
 // `proofs/Demand3.antt`. There is no code.
 
+#![tactic(auto)]
+
 use alu_rules::Outcome;
 use job_rules::Program;
 use register::Register;
 use table::{Count, Pointer, Target};
 
 // An instruction as it goes through decode and latches: its word, the registers of its operands and the register that it writes, or none.
-#[derive(Drop)]
+#[derive(Clone, Copy)]
 pub struct Instruction {
     pub word: u32,
     pub first: Pointer,
@@ -17,7 +19,7 @@ pub struct Instruction {
 }
 
 // The values that ID has read.
-#[derive(Drop)]
+#[derive(Clone, Copy)]
 pub struct Operands {
     pub first: Register,
     pub second: Register,
@@ -25,7 +27,7 @@ pub struct Operands {
 }
 
 // The latch between IF and ID.
-#[derive(Drop)]
+#[derive(Clone, Copy)]
 pub enum IfId {
     // nothing was fetched
     Empty,
@@ -34,7 +36,7 @@ pub enum IfId {
 }
 
 // The latch between ID and EX.
-#[derive(Drop)]
+#[derive(Clone, Copy)]
 pub enum IdEx {
     // nothing was decoded
     Empty,
@@ -43,7 +45,7 @@ pub enum IdEx {
 }
 
 // The latch between EX and WB.
-#[derive(Drop)]
+#[derive(Clone, Copy)]
 pub enum ExWb {
     // nothing was executed
     Empty,
@@ -52,7 +54,7 @@ pub enum ExWb {
 }
 
 // The unit: its program, with its job's edition, the count of lines fetched, the cycles since the go, the registers, the latches, and whether it has gone since it was loaded.
-#[derive(Drop)]
+#[derive(Clone, Copy)]
 pub struct Unit {
     pub program: Program,
     pub count: Count,
@@ -65,7 +67,7 @@ pub struct Unit {
 }
 
 // What is in flight between two cycles: the count and the latches, all of the unit that a cycle changes but its number and the registers.
-#[derive(Drop)]
+#[derive(Clone, Copy)]
 pub struct InFlight {
     pub count: Count,
     pub fetched: IfId,
@@ -74,7 +76,7 @@ pub struct InFlight {
 }
 
 // What WB writes in a cycle: whether it writes, where and what.
-#[derive(Drop)]
+#[derive(Clone, Copy)]
 pub struct Write {
     pub writes: bool,
     pub at: Pointer,
@@ -82,7 +84,7 @@ pub struct Write {
 }
 
 // The registers that ID reads in a cycle.
-#[derive(Drop)]
+#[derive(Clone, Copy)]
 pub struct Sources {
     pub first: Pointer,
     pub second: Pointer,
@@ -90,7 +92,7 @@ pub struct Sources {
 }
 
 // What a load answers: 0, 10, 18, or the number that the file is refused with, with 6 the place of the first bad word; and the unit.
-#[derive(Drop)]
+#[derive(Clone, Copy)]
 pub struct Loaded {
     pub refusal: u32,
     pub place: usize,
@@ -98,21 +100,21 @@ pub struct Loaded {
 }
 
 // What a go answers: 0 or 10; and the unit.
-#[derive(Drop)]
+#[derive(Clone, Copy)]
 pub struct Gone {
     pub refusal: u32,
     pub unit: Unit,
 }
 
 // What a cycle answers: 0, 8 or 10, with a row also 9; and the unit.
-#[derive(Drop)]
+#[derive(Clone, Copy)]
 pub struct Cycled {
     pub refusal: u32,
     pub unit: Unit,
 }
 
 // What a run answers: 0 or 10, how many cycles were made, and the unit.
-#[derive(Drop)]
+#[derive(Clone, Copy)]
 pub struct Ran {
     pub refusal: u32,
     pub made: u32,
@@ -120,14 +122,14 @@ pub struct Ran {
 }
 
 // What asking for a register answers: 0, 7 or 10, and the register.
-#[derive(Drop)]
+#[derive(Clone, Copy)]
 pub struct RegisterAnswer {
     pub refusal: u32,
     pub register: Register,
 }
 
 // What asking whether a unit is drained answers: 0 or 10, and whether it is.
-#[derive(Drop)]
+#[derive(Clone, Copy)]
 pub struct Drained {
     pub refusal: u32,
     pub drained: bool,

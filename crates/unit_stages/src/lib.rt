@@ -1,5 +1,7 @@
 // The stages of a cycle, each as a function on latches and single registers, so that no register file and no program is handed on once a cycle.
 
+#![tactic(auto)]
+
 ghost use Rattle.std.specs.Prelude.{◌≡◌};
 ghost use Rattle.unit_rules.specs.Stages.{in_flight_of, advanced_of};
 

@@ -1,4 +1,4 @@
--- Carried by `next-read`. The invariant: the array is filled with the registers before i.
+-- Carried by `next_read`. The invariant: the array is filled with the registers before i.
 use Prim.Native.Nat.{◌-◌, ◌≤◌}
 use mathlib.Core.Path.{◌≡◌, refl}
 use native.Mathlib.Omega.{arith}
@@ -8,7 +8,7 @@ use Rattle.buffer.proofs.Parts.{at_end}
 use Rattle.register.specs.Layout.{zero_register}
 use Rattle.job_rules.specs.Read.{filled}
 use Rattle.job_rules.specs.Layout.{registers_of}
-use Rattle.job_rules.proofs.Pieces.{next-read}
+use Rattle.job_rules.proofs.Pieces.{next_read}
 use Rattle.job_reader.proofs.read_registers as this
 
 abbrev invariant-loop : this.Tie.invariant-loop
@@ -18,7 +18,7 @@ abbrev decreases-loop : this.Tie.decreases-loop
 decreases-loop l at r registers₀ i₀ registers i = r - i
 
 loop-again : this.Tie.Need-loop-again invariant-loop decreases-loop
-loop-again c = (search rules, next-read _ 16 32 zero_register _ _ _ _ _ (omega arith) c.before.before.loop.invariant.1 c.register-at.ensures)
+loop-again c = (search rules, next_read _ 16 32 zero_register _ _ _ _ _ (omega arith) c.before.before.loop.invariant.1 c.register-at.ensures)
 
 returns : this.Tie.Need-returns invariant-loop decreases-loop
 returns c =

@@ -1,4 +1,4 @@
--- Carried by `next-read`. The invariant: the array is filled with the words before i.
+-- Carried by `next_read`. The invariant: the array is filled with the words before i.
 use Prim.Native.Nat.{◌-◌, ◌≤◌}
 use mathlib.Core.Path.{◌≡◌, refl}
 use native.Mathlib.Omega.{arith}
@@ -7,7 +7,7 @@ use lib.ListN.{drop}
 use Rattle.buffer.proofs.Parts.{at_end}
 use Rattle.job_rules.specs.Read.{filled}
 use Rattle.job_rules.specs.Layout.{words_in}
-use Rattle.job_rules.proofs.Pieces.{next-read, word_there}
+use Rattle.job_rules.proofs.Pieces.{next_read, word_there}
 use Rattle.job_reader.proofs.read_words as this
 
 abbrev invariant-loop : this.Tie.invariant-loop
@@ -21,7 +21,7 @@ loop-again c =
     let a = c.before.before.before.before.args in
     let loop = c.before.before.loop in (
       search rules,
-      next-read _ 4 64 0 a.l.now a.at _ _ _ (omega arith) loop.invariant.1 (word_there a.l.now _ c.word_at.ensures),
+      next_read _ 4 64 0 a.l.now a.at _ _ _ (omega arith) loop.invariant.1 (word_there a.l.now _ c.word_at.ensures),
     )
 
 returns : this.Tie.Need-returns invariant-loop decreases-loop

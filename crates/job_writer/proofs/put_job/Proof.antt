@@ -1,12 +1,12 @@
--- Carried by `job-put`: header, words and register bytes join.
+-- Carried by `job_put`: header, words and register bytes join.
 use Prim.Native.Nat.{ℕ, ◌+◌, ◌-◌, ◌*◌}
 use mathlib.Core.List.{List}
 use borrow.Rule.Slice.PartMut.{put_mid}
 use native.Mathlib.Omega.{arith}
 use borrow.Author.Rules.{rules}
 use lib.ListN.{length}
-use Rattle.buffer.proofs.Parts.{all-fit-from}
-use Rattle.job_rules.proofs.Pieces.{offset_bounds, job-put}
+use Rattle.buffer.proofs.Parts.{all_fit_from}
+use Rattle.job_rules.proofs.Pieces.{offset_bounds, job_put}
 use Rattle.job_writer.proofs.put_job as this
 
 put-header-requires : this.Tie.Need-put-header-requires
@@ -22,9 +22,9 @@ returns c =
     let at = start.instructions-at.result in
     let front : List ℕ = header.put-header.new.0 in
     let so_far = put_mid at (length front - at) front words.put-words.new.0 in
-    job-put a.edition a.words.now a.registers.now at a.out.now _ _ _ start.instructions-at.ensures header.put-header.ensures
+    job_put a.edition a.words.now a.registers.now at a.out.now _ _ _ start.instructions-at.ensures header.put-header.ensures
     words.put-words.ensures
-    (all-fit-from (at + 4 * length a.words.now) a.registers.now so_far registers.put_front.ensures (omega arith))
+    (all_fit_from (at + 4 * length a.words.now) a.registers.now so_far registers.put_front.ensures (omega arith))
 
 pub put-job-spec : {M : Type 1} → this.Statement.statement M
 put-job-spec =

@@ -10,18 +10,18 @@ use Rattle.job_rules.specs.declared.Written.{Written}
 use Rattle.job_rules.specs.Layout.{instructions_at}
 use Rattle.job_rules.specs.Write.{size_or_refusal}
 use Rattle.job_rules.proofs.Refusals as tests
-use Rattle.job_rules.proofs.Pieces.{job-size}
+use Rattle.job_rules.proofs.Pieces.{job_size}
 use Rattle.job_writer.proofs.write_job as this
 
 fits : (edition : Edition) (words bytes : List ℕ) (room : ℕ) {answer : Written} → answer ≡ size_or_refusal edition words bytes room → answer.refusal ≡ 0
     → (length words ≤ 64) × (instructions_at edition + 4 * length words + length bytes ≤ room)
 fits edition words bytes room e taken =
     let a = tests.asked_accepts edition words bytes room (sym (ap (λ (w : Written). w.refusal) e) ∙ taken) in
-    (a.job.few, omega (arith, a.enough, job-size edition words bytes))
+    (a.job.few, omega (arith, a.enough, job_size edition words bytes))
 
 pub write-job-spec : {M : Type 1} → this.Statement.statement M
 write-job-spec =
     this.Tie.close
     (this.Tie.spec _ (λ c. search (tests.not_written, rules))
     (λ c κs. fits _ _ _ _ c.before.before.before.size-or-refusal.ensures c.before.if1.false) (λ c. search rules)
-    (λ c. search (tests.job-written, rules)))
+    (λ c. search (tests.job_written, rules)))

@@ -1,6 +1,6 @@
 -- Carried by the laws of `Lines`: the row and the operands as they came out.
 use borrow.Author.Rules.{rules}
-use Rattle.text_reader.proofs.Lines.{no_name, name-within, no-operands, line_read}
+use Rattle.text_reader.proofs.Lines.{no_name, name_within, no_operands, line_read}
 use Rattle.text_reader.proofs.line_in as this
 
 returns : this.Tie.Need-returns
@@ -15,14 +15,14 @@ operands-in-requires c κs =
     let start = name.before.before in (
       start.before.requires,
       c.if1.false,
-      name-within _ start.shared-slice-known.given _ name.name_in.ensures _ c.before.row_of.ensures c.if1.false,
+      name_within _ start.shared-slice-known.given _ name.name_in.ensures _ c.before.row_of.ensures c.if1.false,
     )
 
 returns-2 : this.Tie.Need-returns-2
 returns-2 c =
     let row = c.before.before.before.before in
     let name = row.before.before in
-    no-operands _ name.before.before.shared-slice-known.given _ name.name_in.ensures _ row.before.row_of.ensures row.if1.false _
+    no_operands _ name.before.before.shared-slice-known.given _ name.name_in.ensures _ row.before.row_of.ensures row.if1.false _
     c.before.before.before.operands-in.ensures c.before.if2.true c.refused-line2.ensures
 
 returns-3 : this.Tie.Need-returns-3

@@ -3,7 +3,7 @@ use mathlib.Core.Path.{sym}
 use native.Mathlib.Omega.{arith}
 use borrow.Author.Rules.{rules}
 use lib.Seq.{length-take-le}
-use Rattle.text_writer.proofs.Listings.{listing_fits, too_many, bad-word, no_room, copied, put_within}
+use Rattle.text_writer.proofs.Listings.{listing_fits, too_many, bad_word, no_room, copied, put_within}
 use Rattle.text_writer.proofs.list_program as this
 
 put-listing-requires : this.Tie.Need-put-listing-requires
@@ -15,7 +15,7 @@ put-listing-requires c κs =
 returns-2 : this.Tie.Need-returns-2
 returns-2 c =
     let found = c.before.before in
-    bad-word _ _ found.before.if1.false found.first-bad.ensures c.before.if2.true c.refused2.ensures
+    bad_word _ _ found.before.if1.false found.first-bad.ensures c.before.if2.true c.refused2.ensures
 
 returns-3 : this.Tie.Need-returns-3
 returns-3 c =

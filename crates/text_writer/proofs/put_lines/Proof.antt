@@ -1,11 +1,11 @@
--- Carried by `piece-put`. The invariant: the lines of the words before i stand at the front.
+-- Carried by `piece_put`. The invariant: the lines of the words before i stand at the front.
 use Prim.Native.Nat.{◌-◌}
 use mathlib.Core.Path.{◌≡◌, refl}
 use native.Mathlib.Omega.{arith}
 use borrow.Author.Rules.{rules}
 use lib.ListN.{length}
 use Rattle.text_rules.specs.Listing.{line_of_word}
-use Rattle.text_writer.proofs.Pieces.{SoFar, as_long, fits, fits-behind, piece-put}
+use Rattle.text_writer.proofs.Pieces.{SoFar, as_long, fits, fits_behind, piece_put}
 use Rattle.text_writer.proofs.Listings.{word_small, no_line, all_lines}
 use Rattle.text_writer.proofs.put_lines as this
 
@@ -23,7 +23,7 @@ put-line-requires c κs =
     let taken = c.before.before.loop-test.true in
     let loop = c.before.before.before in
     let pre = loop.before.before.before.before.requires in
-    (pre.0, word_small _ pre.1 _ taken, fits-behind loop.loop.invariant.1 taken 0)
+    (pre.0, word_small _ pre.1 _ taken, fits_behind loop.loop.invariant.1 taken 0)
 
 add_at : this.Tie.Need-add-at invariant-loop decreases-loop
 add_at c =
@@ -35,7 +35,7 @@ loop-again : this.Tie.Need-loop-again invariant-loop decreases-loop
 loop-again c =
     let put = c.before.before in
     let loop = put.before.before.before in
-    let next = piece-put loop.before.loop.invariant.1 loop.loop-test.true 0 _ _ put.put-line.ensures in
+    let next = piece_put loop.before.loop.invariant.1 loop.loop-test.true 0 _ _ put.put-line.ensures in
     (as_long next, next)
 
 pub put-lines-spec : {M : Type 1} → this.Statement.statement M

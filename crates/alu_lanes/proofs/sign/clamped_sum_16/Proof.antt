@@ -1,11 +1,11 @@
--- Carried by `clamped-sum`, at 16 bits. The code's numerals are asked of omega, so that a wrong one is refused here, with the number.
+-- Carried by `clamped_sum`, at 16 bits. The code's numerals are asked of omega, so that a wrong one is refused here, with the number.
 use Rattle.std.proofs.Common.{arith, lit<, rules}
-use Rattle.alu_lanes.proofs.Signed.{clamped-sum}
+use Rattle.alu_lanes.proofs.Signed.{clamped_sum}
 use Rattle.alu_lanes.proofs.Equality.{same16}
 use Rattle.alu_lanes.proofs.sign.clamped_sum_16 as this
 
 returns : this.Tie.Need-returns
-returns c = same16 (clamped-sum 16 (lit< tt) (search) (omega arith))
+returns c = same16 (clamped_sum 16 (lit< tt) (search) (omega arith))
 
 pub clamped-sum-16-spec : {M : Type 1} → this.Statement.statement M
 clamped-sum-16-spec = this.Tie.close (this.Tie.spec (λ c. search rules) _ _ _ _ _ _ _ returns)

@@ -1,11 +1,11 @@
--- Carried by `clamped-sum`, at 64 bits. The code's numerals are asked of omega, so that a wrong one is refused here, with the number.
+-- Carried by `clamped_sum`, at 64 bits. The code's numerals are asked of omega, so that a wrong one is refused here, with the number.
 use Rattle.std.proofs.Common.{arith, lit<, rules}
-use Rattle.alu_lanes.proofs.Signed.{clamped-sum}
+use Rattle.alu_lanes.proofs.Signed.{clamped_sum}
 use Rattle.alu_lanes.proofs.Equality.{same64}
 use Rattle.alu_lanes.proofs.sign.clamped_sum_64 as this
 
 returns : this.Tie.Need-returns
-returns c = same64 (clamped-sum 64 (lit< tt) (search) (omega arith))
+returns c = same64 (clamped_sum 64 (lit< tt) (search) (omega arith))
 
 pub clamped-sum-64-spec : {M : Type 1} → this.Statement.statement M
 clamped-sum-64-spec = this.Tie.close (this.Tie.spec (λ c. search rules) _ _ _ _ _ _ _ returns)

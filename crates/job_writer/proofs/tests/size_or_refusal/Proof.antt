@@ -4,7 +4,7 @@ use native.Mathlib.Omega.{arith}
 use borrow.Author.Rules.{rules}
 use Rattle.table.proofs.Decided.{deciding}
 use Rattle.job_rules.specs.Write.{size_or_refusal}
-use Rattle.job_rules.proofs.Pieces.{offset_bounds, job-size}
+use Rattle.job_rules.proofs.Pieces.{offset_bounds, job_size}
 use Rattle.job_writer.proofs.tests.size_or_refusal as this
 
 returns : this.Tie.Need-returns
@@ -36,7 +36,7 @@ unfolding size_or_refusal
 returns-6 c =
     let start = c.before.before in
     let first = start.before.before in
-    rw (c.refused6.ensures, ← first.before.before.first-bad.ensures, ← first.first-held.ensures, job-size, ← start.instructions-at.ensures)
+    rw (c.refused6.ensures, ← first.before.before.first-bad.ensures, ← first.first-held.ensures, job_size, ← start.instructions-at.ensures)
     (search deciding depth 12)
 
 returns-7 : this.Tie.Need-returns-7
@@ -44,7 +44,7 @@ unfolding size_or_refusal
 returns-7 c =
     let start = c.before in
     let first = start.before.before in
-    rw (← first.before.before.first-bad.ensures, ← first.first-held.ensures, job-size, ← start.instructions-at.ensures)
+    rw (← first.before.before.first-bad.ensures, ← first.first-held.ensures, job_size, ← start.instructions-at.ensures)
     (search deciding depth 12)
 
 pub size-or-refusal-spec : {M : Type 1} → this.Statement.statement M

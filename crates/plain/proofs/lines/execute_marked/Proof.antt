@@ -10,7 +10,7 @@ use lib.ListN.{length, get_or}
 use Rattle.table.specs.declared.Edition.{Edition}
 use Rattle.table.specs.Operation.{is_nop}
 use Rattle.plain_rules.specs.Machine.{executed_registers}
-use Rattle.plain.proofs.Loop.{Done, Given, edition_by, its_edition, no_line, li_given, multiply_given, short_given, in-file, stored-elsewhere, stored-in-0, not-stored}
+use Rattle.plain.proofs.Loop.{Done, Given, edition_by, its_edition, no_line, li_given, multiply_given, short_given, in_file, stored_elsewhere, stored_in_0, not_stored}
 use Rattle.plain.proofs.Loop.{nothing_written, as_long, all_lines}
 use Rattle.table.proofs.writes.is_wired.Reads as is_wired
 use Rattle.table.proofs.fields.rd.Reads as rd
@@ -83,13 +83,13 @@ li c =
     given.li-outcome.ensures mark.put-mark.ensures
 
 loop-again : this.Tie.Need-loop-again invariant-loop decreases-loop
-loop-again c = let x = li c.before in stored-elsewhere x.0 x.1 c.if2.true
+loop-again c = let x = li c.before in stored_elsewhere x.0 x.1 c.if2.true
 
 loop-again-2 : this.Tie.Need-loop-again-2 invariant-loop decreases-loop
-loop-again-2 c = let x = li c.before.before in stored-in-0 _ x.0 x.1 c.before.if2.false c.if3.true
+loop-again-2 c = let x = li c.before.before in stored_in_0 _ x.0 x.1 c.before.if2.false c.if3.true
 
 loop-again-3 : this.Tie.Need-loop-again-3 invariant-loop decreases-loop
-loop-again-3 c = let x = li c.before.before in not-stored _ x.0 c.before.if2.false c.if3.false
+loop-again-3 c = let x = li c.before.before in not_stored _ x.0 c.before.if2.false c.if3.false
 
 -- ---- a word of the multiply family
 
@@ -118,13 +118,13 @@ multiply c =
     third.rs3.ensures.0 mark.before.before.multiply-outcome.ensures mark.put-mark2.ensures
 
 loop-again-4 : this.Tie.Need-loop-again-4 invariant-loop decreases-loop
-loop-again-4 c = let x = multiply c.before in stored-elsewhere x.0 x.1 c.if5.true
+loop-again-4 c = let x = multiply c.before in stored_elsewhere x.0 x.1 c.if5.true
 
 loop-again-5 : this.Tie.Need-loop-again-5 invariant-loop decreases-loop
-loop-again-5 c = let x = multiply c.before.before in stored-in-0 _ x.0 x.1 c.before.if5.false c.if6.true
+loop-again-5 c = let x = multiply c.before.before in stored_in_0 _ x.0 x.1 c.before.if5.false c.if6.true
 
 loop-again-6 : this.Tie.Need-loop-again-6 invariant-loop decreases-loop
-loop-again-6 c = let x = multiply c.before.before in not-stored _ x.0 c.before.if5.false c.if6.false
+loop-again-6 c = let x = multiply c.before.before in not_stored _ x.0 c.before.if5.false c.if6.false
 
 -- ---- a word of a short code
 
@@ -151,13 +151,13 @@ short c =
     refl mark.before.before.short-given.ensures mark.put-mark3.ensures
 
 loop-again-7 : this.Tie.Need-loop-again-7 invariant-loop decreases-loop
-loop-again-7 c = let nop = c.before.before in stored-elsewhere (short nop) (sym nop.is-nop.ensures ∙ not-true _ c.before.if7.true) c.if8.true
+loop-again-7 c = let nop = c.before.before in stored_elsewhere (short nop) (sym nop.is-nop.ensures ∙ not-true _ c.before.if7.true) c.if8.true
 
 loop-again-8 : this.Tie.Need-loop-again-8 invariant-loop decreases-loop
-loop-again-8 c = let nop = c.before.before.before in stored-in-0 _ (short nop) (sym nop.is-nop.ensures ∙ not-true _ c.before.before.if7.true) c.before.if8.false c.if9.true
+loop-again-8 c = let nop = c.before.before.before in stored_in_0 _ (short nop) (sym nop.is-nop.ensures ∙ not-true _ c.before.before.if7.true) c.before.if8.false c.if9.true
 
 loop-again-9 : this.Tie.Need-loop-again-9 invariant-loop decreases-loop
-loop-again-9 c = not-stored _ (short c.before.before.before) c.before.if8.false c.if9.false
+loop-again-9 c = not_stored _ (short c.before.before.before) c.before.if8.false c.if9.false
 
 loop-again-10 : this.Tie.Need-loop-again-10 invariant-loop decreases-loop
 loop-again-10 c = nothing_written (short c.before) c.before.is-nop.ensures c.if7.false
@@ -165,16 +165,16 @@ loop-again-10 c = nothing_written (short c.before) c.before.is-nop.ensures c.if7
 -- ---- far back: the register is one of the 32, and the line was there
 
 mul-registers-2 : this.Tie.Need-mul-registers-2 invariant-loop decreases-loop
-mul-registers-2 c = omega (arith, in-file (multiply c.before).0)
+mul-registers-2 c = omega (arith, in_file (multiply c.before).0)
 
 array-set-from-registers-3 : this.Tie.Need-array-set-from-registers-3 invariant-loop decreases-loop
-array-set-from-registers-3 c = omega (arith, in-file (multiply c.before).0)
+array-set-from-registers-3 c = omega (arith, in_file (multiply c.before).0)
 
 mul-registers-3 : this.Tie.Need-mul-registers-3 invariant-loop decreases-loop
-mul-registers-3 c = omega (arith, in-file (short c.before.before))
+mul-registers-3 c = omega (arith, in_file (short c.before.before))
 
 array-set-from-registers-5 : this.Tie.Need-array-set-from-registers-5 invariant-loop decreases-loop
-array-set-from-registers-5 c = omega (arith, in-file (short c.before.before))
+array-set-from-registers-5 c = omega (arith, in_file (short c.before.before))
 
 loop-less-4 : this.Tie.Need-loop-less-4 invariant-loop decreases-loop
 loop-less-4 c = omega (arith, (multiply c.before).0.here)

@@ -1,4 +1,4 @@
--- Carried by `next-filled`. The invariant: the first i registers are made of the first i rows.
+-- Carried by `next_filled`. The invariant: the first i registers are made of the first i rows.
 use Prim.Native.Nat.{◌-◌}
 use mathlib.Core.Path.{◌≡◌, refl}
 use mathlib.Core.List.{map}
@@ -6,7 +6,7 @@ use native.Mathlib.Omega.{arith}
 use borrow.Author.Rules.{rules}
 use lib.ListN.{length, take, length-set}
 use Rattle.register.specs.Layout.{of_row}
-use Rattle.plain.proofs.Converted.{next-filled, all-filled}
+use Rattle.plain.proofs.Converted.{next_filled, all_filled}
 use Rattle.plain.proofs.rows.registers_of as this
 
 abbrev invariant-loop : this.Tie.invariant-loop
@@ -19,4 +19,4 @@ pub registers-of-spec : {M : Type 1} → this.Statement.statement M
 registers-of-spec =
     this.Tie.close
     (this.Tie.spec invariant-loop decreases-loop (λ c. (refl, refl)) (λ c. search rules) (λ c. search rules) _ (λ c. search rules) (λ c. search rules)
-    (λ c. search rules) (λ c. search rules) (λ c. (simp length-set (omega arith), search next-filled)) (λ c. search all-filled))
+    (λ c. search rules) (λ c. search rules) (λ c. (simp length-set (omega arith), search next_filled)) (λ c. search all_filled))

@@ -1,4 +1,4 @@
--- Carried by `next-filled`. The invariant: the first i rows are made of the first i registers.
+-- Carried by `next_filled`. The invariant: the first i rows are made of the first i registers.
 use Prim.Native.Nat.{◌-◌}
 use mathlib.Core.Path.{◌≡◌, refl}
 use mathlib.Core.List.{map}
@@ -6,7 +6,7 @@ use native.Mathlib.Omega.{arith}
 use borrow.Author.Rules.{rules}
 use lib.ListN.{length, take, length-set}
 use Rattle.register.specs.Layout.{row_of}
-use Rattle.plain.proofs.Converted.{next-filled, all-filled}
+use Rattle.plain.proofs.Converted.{next_filled, all_filled}
 use Rattle.plain.proofs.rows.rows_of as this
 
 abbrev invariant-loop : this.Tie.invariant-loop
@@ -19,4 +19,4 @@ pub rows-of-spec : {M : Type 1} → this.Statement.statement M
 rows-of-spec =
     this.Tie.close
     (this.Tie.spec invariant-loop decreases-loop (λ c. (refl, refl)) (λ c. search rules) (λ c. search rules) _ (λ c. search rules) (λ c. search rules)
-    (λ c. search rules) (λ c. search rules) (λ c. (simp length-set (omega arith), search next-filled)) (λ c. search all-filled))
+    (λ c. search rules) (λ c. search rules) (λ c. (simp length-set (omega arith), search next_filled)) (λ c. search all_filled))

@@ -3,13 +3,13 @@ use Prim.Native.Nat.{◌-◌, ◌≤◌}
 use mathlib.Core.Path.{◌≡◌, refl}
 use borrow.Author.Rules.{rules}
 use lib.ListN.{length}
-use Rattle.buffer.specs.Front.{at_front}
+use Rattle.buffer.specs.Front.{in_front}
 use Rattle.row_rules.specs.Text.{hyphens}
 use Rattle.row.proofs.Pieces.{hyphen_more, all_hyphens}
 use Rattle.row.proofs.digits.put_hyphens as this
 
 abbrev invariant-loop : this.Tie.invariant-loop
-invariant-loop out₀ k i₀ out i = (i ≤ k) × (length out ≡ length out₀) × (out ≡ at_front (hyphens i) out₀)
+invariant-loop out₀ k i₀ out i = (i ≤ k) × (length out ≡ length out₀) × (out ≡ in_front (hyphens i) out₀)
 
 abbrev decreases-loop : this.Tie.decreases-loop
 decreases-loop out₀ k i₀ out i = k - i

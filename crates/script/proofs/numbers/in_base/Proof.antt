@@ -4,7 +4,7 @@ use native.Mathlib.Omega.{arith}
 use mathlib.Core.Path.{sym, ◌∙◌}
 use borrow.Author.Rules.{rules}
 use lib.ListN.{length}
-use Rattle.script.proofs.Numerals.{SaidSoFar, none_said, none_so_far, times_base, all_said, no_digit, too_large, digit-more}
+use Rattle.script.proofs.Numerals.{SaidSoFar, none_said, none_so_far, times_base, all_said, no_digit, too_large, digit_more}
 use Rattle.script.proofs.numbers.in_base as this
 
 abbrev invariant-loop : this.Tie.invariant-loop
@@ -39,7 +39,7 @@ loop-again : this.Tie.Need-loop-again invariant-loop decreases-loop
 loop-again c =
     let digit = c.before.before in
     let loop = digit.before.before in
-    digit-more loop.before.loop.invariant loop.loop-test.true digit.digit.ensures c.before.if1.false c.if2.false
+    digit_more loop.before.loop.invariant loop.loop-test.true digit.digit.ensures c.before.if1.false c.if2.false
 
 returns-3 : this.Tie.Need-returns-3 invariant-loop decreases-loop
 returns-3 c = c.unknown3.ensures ∙ sym (none_said _ _ (omega arith))

@@ -17,7 +17,7 @@ returns : this.Tie.Need-returns invariant-loop decreases-loop
 returns c = other_length c.before.args.a.now c.before.args.b.now c.if1.true
 
 loop-holds : this.Tie.Need-loop-holds invariant-loop decreases-loop
-loop-holds c = record { as_long = c.if1.false; within = omega arith; test-left = refl }
+loop-holds c = record { as_long = c.if1.false; within = omega arith; test_left = refl }
 
 returns-2 : this.Tie.Need-returns-2 invariant-loop decreases-loop
 returns-2 c = other_byte c.before.before.before.before.loop.invariant c.before.before.before.loop-test.true c.if2.true

@@ -2,8 +2,8 @@
 use Prim.Native.Nat.{◌-◌, ◌≤◌}
 use native.Mathlib.Omega.{arith}
 use borrow.Author.Rules.{rules}
-use Rattle.text_table.proofs.Cells.{table-long}
-use Rattle.text_reader.proofs.Keys.{From, key_here, key-later, key_never}
+use Rattle.text_table.proofs.Cells.{table_long}
+use Rattle.text_reader.proofs.Keys.{From, key_here, key_later, key_never}
 use Rattle.text_reader.proofs.forms.row_of as this
 
 abbrev invariant-loop : this.Tie.invariant-loop
@@ -13,7 +13,7 @@ abbrev decreases-loop : this.Tie.decreases-loop
 decreases-loop table key row₀ row = 26 - row
 
 shared-slice-read-if1 : this.Tie.Need-shared-slice-read-if1 invariant-loop decreases-loop
-shared-slice-read-if1 c = omega (arith, table-long c.before.before.before.requires)
+shared-slice-read-if1 c = omega (arith, table_long c.before.before.before.requires)
 
 returns : this.Tie.Need-returns invariant-loop decreases-loop
 returns c =
@@ -23,7 +23,7 @@ returns c =
 loop-again : this.Tie.Need-loop-again invariant-loop decreases-loop
 loop-again c =
     let loop = c.before.before.before in
-    (search rules, key-later loop.before.requires _ _ c.before.before.loop-test.true loop.loop.invariant.1 c.if1.false)
+    (search rules, key_later loop.before.requires _ _ c.before.before.loop-test.true loop.loop.invariant.1 c.if1.false)
 
 pub row-of-spec : {M : Type 1} → this.Statement.statement M
 row-of-spec =

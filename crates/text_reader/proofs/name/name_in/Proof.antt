@@ -5,7 +5,7 @@ use native.Mathlib.Omega.{arith}
 use borrow.Author.Rules.{rules}
 use borrow.Author.Tests.{ltb-true}
 use lib.ListN.{length}
-use Rattle.text_reader.proofs.Names.{NameSoFar, name-more, key-room, name_ends, text-ends, seven-read}
+use Rattle.text_reader.proofs.Names.{NameSoFar, name_more, key_room, name_ends, text_ends, seven_read}
 use Rattle.text_reader.proofs.name.name_in as this
 
 abbrev invariant-loop : this.Tie.invariant-loop
@@ -20,7 +20,7 @@ mul-key c =
     let loop = b.before.before in
     omega (
       arith,
-      key-room loop.before.before.args.text.now loop.loop.key loop.loop.size loop.loop.invariant.2 (omega arith) b.if1.true
+      key_room loop.before.before.args.text.now loop.loop.key loop.loop.size loop.loop.invariant.2 (omega arith) b.if1.true
           c.before.in-name.ensures c.before.before.shared-slice-known2.given c.if2.true,
     )
 
@@ -33,7 +33,7 @@ add-key c =
     let loop = b.before.before in
     omega (
       arith,
-      key-room loop.before.before.args.text.now loop.loop.key loop.loop.size loop.loop.invariant.2 (omega arith) b.if1.true
+      key_room loop.before.before.args.text.now loop.loop.key loop.loop.size loop.loop.invariant.2 (omega arith) b.if1.true
           c.before.before.in-name.ensures c.shared-slice-known3.given c.before.if2.true,
     )
 
@@ -43,7 +43,7 @@ loop-again c =
     let loop = b.before.before in (
       omega arith,
       omega (arith, ltb-true),
-      name-more _ _ _ loop.loop.invariant.2 (omega arith) b.if1.true c.before.before.in-name.ensures c.before.if2.true,
+      name_more _ _ _ loop.loop.invariant.2 (omega arith) b.if1.true c.before.before.in-name.ensures c.before.if2.true,
     )
 
 returns : this.Tie.Need-returns invariant-loop decreases-loop
@@ -54,6 +54,6 @@ returns c =
 pub name-in-spec : {M : Type 1} → this.Statement.statement M
 name-in-spec =
     this.Tie.close
-    (this.Tie.spec invariant-loop decreases-loop (λ c. (search rules, search rules, record { key-of = refl; size_of = omega arith })) (λ c. search rules)
+    (this.Tie.spec invariant-loop decreases-loop (λ c. (search rules, search rules, record { key_of_lem = refl; size_of = omega arith })) (λ c. search rules)
     (λ c κs. tt) mul-key (λ c. search rules) cast-key add-key (λ c. search rules) (λ c. omega arith) loop-again returns
-    (λ c. text-ends _ _ _ c.before.before.loop.invariant.2 c.if1.false) (λ c. seven-read _ _ _ c.before.loop.invariant.2 (omega arith)))
+    (λ c. text_ends _ _ _ c.before.before.loop.invariant.2 c.if1.false) (λ c. seven_read _ _ _ c.before.loop.invariant.2 (omega arith)))

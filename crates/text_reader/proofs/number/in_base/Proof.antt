@@ -5,9 +5,9 @@ use mathlib.Core.Logic.{⊎_elim}
 use native.Mathlib.Omega.{arith}
 use borrow.Author.Rules.{rules}
 use lib.ListN.{length}
-use Rattle.text_rules.specs.Number.{is_digit}
-use Rattle.text_rules.proofs.Fronts.{front-at-end}
-use Rattle.text_reader.proofs.Numbers.{NumberSoFar, number_more, number-ended, reaches_limit, base_most, times_base, all_read}
+use Rattle.text_rules.specs.Number.{is_digit_lem}
+use Rattle.text_rules.proofs.Fronts.{front_at_end}
+use Rattle.text_reader.proofs.Numbers.{NumberSoFar, number_more, number_ended, reaches_limit, base_most, times_base, all_read}
 use Rattle.text_reader.proofs.number.in_base as this
 
 abbrev invariant-loop : this.Tie.invariant-loop
@@ -53,7 +53,7 @@ judged-requires c κs =
       inv.1,
       c.before.before.before.requires.1,
       all_read inv.2
-          (⊎_elim (λ w. front-at-end (is_digit _) _ _ w.left) (λ w. number-ended inv.2 w.0.taken w.2.ensures w.3.taken) c.loop-test.branch),
+          (⊎_elim (λ w. front_at_end (is_digit_lem _) _ _ w.left) (λ w. number_ended inv.2 w.0.taken w.2.ensures w.3.taken) c.loop-test.branch),
     )
 
 pub in-base-spec : {M : Type 1} → this.Statement.statement M

@@ -2,7 +2,7 @@
 use mathlib.Core.Logic.{⊎_elim}
 use borrow.Author.Rules.{rules}
 use borrow.Author.Tests.{not-true, not-false}
-use Rattle.text_reader.proofs.Numbers.{above-limit, no_number, number_read}
+use Rattle.text_reader.proofs.Numbers.{above_limit, no_number, number_read}
 use Rattle.text_reader.proofs.number.judged as this
 
 is-numeral-requires : this.Tie.Need-is-numeral-requires
@@ -11,7 +11,7 @@ is-numeral-requires c κs = let pre = c.before.before.requires in (pre.0, pre.1,
 returns : this.Tie.Need-returns
 returns c =
     let pre = c.before.before.before.requires in
-    ⊎_elim (λ w. above-limit _ _ _ _ _ _ pre.2 pre.3 c.none.ensures w.taken)
+    ⊎_elim (λ w. above_limit _ _ _ _ _ _ pre.2 pre.3 c.none.ensures w.taken)
     (λ w. no_number _ _ _ _ _ _ pre.2 pre.3 w.1.ensures c.none.ensures (not-true _ w.2.taken))
     c.before.if1.branch
 

@@ -4,8 +4,8 @@ use mathlib.Core.Path.{◌∙◌}
 use mathlib.Core.Logic.{⊎_elim}
 use native.Mathlib.Omega.{arith}
 use borrow.Author.Rules.{rules}
-use Rattle.text_table.proofs.Cells.{table-long}
-use Rattle.text_reader.proofs.Behind.{OperandsSoFar, none_so_far, base-fits, row-ended, zero_ended, unspaced, unsaid, behind-space, limit-fits, operand-more}
+use Rattle.text_table.proofs.Cells.{table_long}
+use Rattle.text_reader.proofs.Behind.{OperandsSoFar, none_so_far, base_fits, row_ended, zero_ended, unspaced, unsaid, behind_space_lem, limit_fits, operand_more}
 use Rattle.text_reader.proofs.operands.operands_in as this
 
 abbrev invariant-loop : this.Tie.invariant-loop
@@ -15,10 +15,10 @@ abbrev decreases-loop : this.Tie.decreases-loop
 decreases-loop text start table row at₀ base word₀ cell₀ end at word cell = 11 * row + 11 - cell
 
 shared-slice-read-base : this.Tie.Need-shared-slice-read-base invariant-loop decreases-loop
-shared-slice-read-base c = omega (arith, table-long c.before.before.before.requires.0)
+shared-slice-read-base c = omega (arith, table_long c.before.before.before.requires.0)
 
 shared-slice-read-word : this.Tie.Need-shared-slice-read-word invariant-loop decreases-loop
-shared-slice-read-word c = omega (arith, table-long c.before.before.before.before.requires.0)
+shared-slice-read-word c = omega (arith, table_long c.before.before.before.before.requires.0)
 
 loop-holds : this.Tie.Need-loop-holds invariant-loop decreases-loop
 loop-holds c = let pre = c.before.before.before.before.requires in none_so_far pre.0 _ pre.1 _ _ pre.2
@@ -34,9 +34,9 @@ number-in-requires : this.Tie.Need-number-in-requires invariant-loop decreases-l
 number-in-requires c κs =
     let cell = c.before.before.before in
     let loop = cell.before.before in (
-      behind-space loop.before.loop.invariant loop.loop-test.true cell.if1.true c.before.before.begins-with.ensures c.before.if2.false,
-      base-fits loop.before.loop.invariant,
-      limit-fits loop.before.loop.invariant loop.loop-test.true cell.if1.true,
+      behind_space_lem loop.before.loop.invariant loop.loop-test.true cell.if1.true c.before.before.begins-with.ensures c.before.if2.false,
+      base_fits loop.before.loop.invariant,
+      limit_fits loop.before.loop.invariant loop.loop-test.true cell.if1.true,
     )
 
 returns-2 : this.Tie.Need-returns-2 invariant-loop decreases-loop
@@ -56,7 +56,7 @@ add-word c =
     let loop = cell.before.before in
     omega (
       arith,
-      (operand-more loop.before.loop.invariant loop.loop-test.true cell.if1.true space.before.begins-with.ensures space.if2.false
+      (operand_more loop.before.loop.invariant loop.loop-test.true cell.if1.true space.before.begins-with.ensures space.if2.false
           said.number_in.result said.number_in.ensures c.before.before.if3.false).room,
     )
 
@@ -66,14 +66,14 @@ loop-again c =
     let space = said.before.before in
     let cell = space.before.before in
     let loop = cell.before.before in
-    operand-more loop.before.loop.invariant loop.loop-test.true cell.if1.true space.before.begins-with.ensures space.if2.false _
+    operand_more loop.before.loop.invariant loop.loop-test.true cell.if1.true space.before.begins-with.ensures space.if2.false _
     said.number_in.ensures c.before.before.before.if3.false
 
 returns-3 : this.Tie.Need-returns-3 invariant-loop decreases-loop
 returns-3 c =
     let so_far = c.before.before.loop.invariant in
     c.ended.ensures _
-    ∙ ⊎_elim (λ w. zero_ended so_far w.0.taken w.2.left) (λ w. row-ended so_far w.left) c.before.loop-test.branch
+    ∙ ⊎_elim (λ w. zero_ended so_far w.0.taken w.2.left) (λ w. row_ended so_far w.left) c.before.loop-test.branch
 
 pub operands-in-spec : {M : Type 1} → this.Statement.statement M
 operands-in-spec =

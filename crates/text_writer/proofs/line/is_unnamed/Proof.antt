@@ -1,14 +1,14 @@
 -- Carried by the laws of `Leaves`: each test as it came out.
 use native.Mathlib.Omega.{arith}
 use borrow.Author.Rules.{rules}
-use Rattle.text_writer.proofs.Leaves.{below-codes, unused-bits, by_code}
+use Rattle.text_writer.proofs.Leaves.{below_codes, unused_bits, by_code}
 use Rattle.text_writer.proofs.line.is_unnamed as this
 
 returns : this.Tie.Need-returns
-returns c = below-codes c.before.args.w (omega arith)
+returns c = below_codes c.before.args.w (omega arith)
 
 returns-2 : this.Tie.Need-returns-2
-returns-2 c = let start = c.before.before in unused-bits start.args.w (omega arith) start.requires c.if2.true
+returns-2 c = let start = c.before.before in unused_bits start.args.w (omega arith) start.requires c.if2.true
 
 returns-3 : this.Tie.Need-returns-3
 returns-3 c = let start = c.before.before.before in by_code start.args.w (omega arith) start.requires c.before.if2.false c.leaves-out.ensures

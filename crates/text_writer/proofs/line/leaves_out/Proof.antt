@@ -2,14 +2,14 @@
 use mathlib.Core.Path.{sym, ◌∙◌}
 use native.Mathlib.Omega.{arith}
 use borrow.Author.Rules.{rules}
-use Rattle.text_writer.proofs.Leaves.{of-nop, of-shrhi, of_two, of_others}
+use Rattle.text_writer.proofs.Leaves.{of_nop, of_shrhi, of_two, of_others}
 use Rattle.text_writer.proofs.line.leaves_out as this
 
 returns : this.Tie.Need-returns
-returns c = let a = c.before.args in of-nop a.code a.w (omega arith)
+returns c = let a = c.before.args in of_nop a.code a.w (omega arith)
 
 returns-2 : this.Tie.Need-returns-2
-returns-2 c = let a = c.before.before.args in of-shrhi a.code a.w (omega arith)
+returns-2 c = let a = c.before.before.args in of_shrhi a.code a.w (omega arith)
 
 returns-3 : this.Tie.Need-returns-3
 returns-3 c =

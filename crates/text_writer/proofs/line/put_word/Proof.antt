@@ -3,7 +3,7 @@ use native.Mathlib.Omega.{arith}
 use borrow.Author.Rules.{rules}
 use lib.ListN.{length-set}
 use Rattle.text_writer.proofs.Lines.{word_line_long, word_put}
-use Rattle.text_writer.proofs.Pieces.{put-long}
+use Rattle.text_writer.proofs.Pieces.{put_long}
 use Rattle.text_writer.proofs.line.put_word as this
 
 returns : this.Tie.Need-returns
@@ -17,7 +17,7 @@ returns c =
 same_length : this.Tie.Need-same-length
 same_length c =
     let start = c.before.before.before.before.before.before.before.before in
-    put-long (returns c) (omega (arith, word_line_long start.args.w start.requires.0))
+    put_long (returns c) (omega (arith, word_line_long start.args.w start.requires.0))
 
 pub put-word-spec : {M : Type 1} → this.Statement.statement M
 put-word-spec =

@@ -1,4 +1,4 @@
--- Carried by `byte-back`. The invariant: the bytes of the name from place i on stand there, and the rest of the key is that of the bytes before them.
+-- Carried by `byte_back`. The invariant: the bytes of the name from place i on stand there, and the rest of the key is that of the bytes before them.
 use Prim.Native.Nat.{◌≤◌}
 use mathlib.Core.Path.{◌≡◌, refl, sym}
 use native.Mathlib.Omega.{arith}
@@ -7,9 +7,9 @@ use lib.ListN.{length, take, drop, length-set}
 use Rattle.buffer.specs.Front.{from_start}
 use Rattle.text_rules.specs.Forms.{form_at}
 use Rattle.text_table.specs.Table.{key_of}
-use Rattle.text_table.proofs.Cells.{table-long}
+use Rattle.text_table.proofs.Cells.{table_long}
 use Rattle.text_writer.proofs.Backwards.{none_written, all_written}
-use Rattle.text_writer.proofs.Names.{name_bytes, less-left, byte-back, size-there, all_left}
+use Rattle.text_writer.proofs.Names.{name_bytes, less_left, byte_back, size_there, all_left}
 use Rattle.text_writer.proofs.name.put_name as this
 
 abbrev invariant-loop : this.Tie.invariant-loop
@@ -20,13 +20,13 @@ abbrev decreases-loop : this.Tie.decreases-loop
 decreases-loop out₀ table row rest₀ size i₀ out rest i = i
 
 shared-slice-read-rest : this.Tie.Need-shared-slice-read-rest invariant-loop decreases-loop
-shared-slice-read-rest c = omega (arith, table-long c.before.before.before.requires.0)
+shared-slice-read-rest c = omega (arith, table_long c.before.before.before.requires.0)
 
 loop-holds : this.Tie.Need-loop-holds invariant-loop decreases-loop
 loop-holds c =
     let start = c.before.before.before.before in
     let pre = start.requires in
-    let size = size-there pre.0 start.args.row pre.1 c.size-by-key.ensures in
+    let size = size_there pre.0 start.args.row pre.1 c.size-by-key.ensures in
     (omega arith, refl, all_left pre.0 _ pre.1 _ size, none_written _ _ _ (sym size))
 
 loop-again : this.Tie.Need-loop-again invariant-loop decreases-loop
@@ -38,8 +38,8 @@ loop-again c =
     let bytes = name_bytes row start.requires.1 in (
       omega arith,
       simp length-set inv.1,
-      less-left (form_at row).name bytes loop.i loop.rest c.loop-test.true inv.0 inv.2,
-      byte-back (form_at row).name bytes loop.i loop.rest c.loop-test.true inv.0 inv.2 start.args.out.now loop.out start.requires.2 inv.3,
+      less_left (form_at row).name bytes loop.i loop.rest c.loop-test.true inv.0 inv.2,
+      byte_back (form_at row).name bytes loop.i loop.rest c.loop-test.true inv.0 inv.2 start.args.out.now loop.out start.requires.2 inv.3,
     )
 
 returns : this.Tie.Need-returns invariant-loop decreases-loop
@@ -47,7 +47,7 @@ returns c =
     let start = c.before.before.before.before.before.before in
     let pre = start.requires in
     record {
-      sized = size-there pre.0 start.args.row pre.1 c.before.before.size-by-key.ensures;
+      sized = size_there pre.0 start.args.row pre.1 c.before.before.size-by-key.ensures;
       stands = all_written _ _ _ _ c.loop-test.false c.before.loop.invariant.3;
     }
 

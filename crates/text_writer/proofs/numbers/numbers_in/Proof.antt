@@ -2,7 +2,7 @@
 use Prim.Native.Nat.{◌-◌}
 use native.Mathlib.Omega.{arith}
 use borrow.Author.Rules.{rules}
-use Rattle.text_writer.proofs.Operands.{NumbersSoFar, none_so_far, row-ended, cell-within, zero_ended, some-weight, limit-fits, weight-fits, operand-more}
+use Rattle.text_writer.proofs.Operands.{NumbersSoFar, none_so_far, row_ended, cell_within, zero_ended, some_weight, limit_fits, weight_fits, operand_more}
 use Rattle.text_writer.proofs.numbers.numbers_in as this
 
 abbrev invariant-loop : this.Tie.invariant-loop
@@ -19,21 +19,21 @@ numbers-in-spec =
     (λ c. search rules)
     (λ c. let pre = c.requires in none_so_far pre.0 _ pre.1 _)
     (λ c. search rules)
-    (λ c. omega (arith, cell-within c.before.before.loop.invariant c.before.loop-test.true))
+    (λ c. omega (arith, cell_within c.before.before.loop.invariant c.before.loop-test.true))
     (λ c. search rules)
-    (λ c. let loop = c.before.before.before in omega (arith, cell-within loop.before.loop.invariant loop.loop-test.true))
-    (λ c. let loop = c.before.before.before in omega (arith, (limit-fits loop.before.loop.invariant loop.loop-test.true c.before.if1.true).1))
-    (λ c. search rules)
-    (λ c. search rules)
-    (λ c. let loop = c.before.before.before.before in cell-within loop.before.loop.invariant loop.loop-test.true)
-    (λ c. let loop = c.before.before.before.before in omega (arith, weight-fits loop.before.loop.invariant loop.loop-test.true c.before.before.if1.true))
-    (λ c. let loop = c.before.before.before.before in some-weight loop.before.loop.invariant loop.loop-test.true c.before.before.if1.true)
-    (λ c. let loop = c.before.before.before.before in (limit-fits loop.before.loop.invariant loop.loop-test.true c.before.before.if1.true).0)
+    (λ c. let loop = c.before.before.before in omega (arith, cell_within loop.before.loop.invariant loop.loop-test.true))
+    (λ c. let loop = c.before.before.before in omega (arith, (limit_fits loop.before.loop.invariant loop.loop-test.true c.before.if1.true).1))
     (λ c. search rules)
     (λ c. search rules)
+    (λ c. let loop = c.before.before.before.before in cell_within loop.before.loop.invariant loop.loop-test.true)
+    (λ c. let loop = c.before.before.before.before in omega (arith, weight_fits loop.before.loop.invariant loop.loop-test.true c.before.before.if1.true))
+    (λ c. let loop = c.before.before.before.before in some_weight loop.before.loop.invariant loop.loop-test.true c.before.before.if1.true)
+    (λ c. let loop = c.before.before.before.before in (limit_fits loop.before.loop.invariant loop.loop-test.true c.before.before.if1.true).0)
     (λ c. search rules)
     (λ c. search rules)
     (λ c. search rules)
-    (λ c. let loop = c.before.before.before.before in operand-more loop.before.loop.invariant loop.loop-test.true c.before.before.if1.true)
+    (λ c. search rules)
+    (λ c. search rules)
+    (λ c. let loop = c.before.before.before.before in operand_more loop.before.loop.invariant loop.loop-test.true c.before.before.if1.true)
     (λ c. zero_ended c.before.before.before.loop.invariant c.before.before.loop-test.true c.if1.false)
-    (λ c. row-ended c.before.loop.invariant c.loop-test.false))
+    (λ c. row_ended c.before.loop.invariant c.loop-test.false))

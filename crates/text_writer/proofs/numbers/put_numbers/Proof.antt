@@ -4,7 +4,7 @@ use mathlib.Core.Path.{◌≡◌, refl}
 use native.Mathlib.Omega.{arith}
 use borrow.Author.Rules.{rules}
 use lib.ListN.{length}
-use Rattle.text_writer.proofs.Pieces.{SoFar, behind_space, none_yet, all-put, as_long, number_fits, still-fits, digits-fit, number_put}
+use Rattle.text_writer.proofs.Pieces.{SoFar, behind_space, none_yet, all_put, as_long, number_fits, still_fits, digits_fit, number_put}
 use Rattle.text_writer.proofs.numbers.put_numbers as this
 
 abbrev invariant-loop : this.Tie.invariant-loop
@@ -19,7 +19,7 @@ loop-holds c = (refl, none_yet behind_space _ _ c.before.before.requires.1)
 put-decimal-requires : this.Tie.Need-put-decimal-requires invariant-loop decreases-loop
 put-decimal-requires c κs =
     let loop = c.before.before in
-    (loop.before.before.before.before.requires.0 loop.before.loop.i, digits-fit loop.before.loop.invariant.1 loop.loop-test.true)
+    (loop.before.before.before.before.requires.0 loop.before.loop.i, digits_fit loop.before.loop.invariant.1 loop.loop-test.true)
 
 add_at : this.Tie.Need-add-at invariant-loop decreases-loop
 add_at c =
@@ -39,7 +39,7 @@ put-numbers-spec =
     this.Tie.close
     (this.Tie.spec invariant-loop decreases-loop loop-holds (λ c. omega (arith, number_fits c.before.loop.invariant.1 c.loop-test.true))
     (λ c. omega (arith, number_fits c.before.loop.invariant.1 c.loop-test.true))
-    (λ c. omega (arith, still-fits c.before.loop.invariant.1 c.loop-test.true))
-    (λ c. omega (arith, still-fits c.before.loop.invariant.1 c.loop-test.true)) (λ c. search rules) (λ c. search rules) (λ c. search rules)
+    (λ c. omega (arith, still_fits c.before.loop.invariant.1 c.loop-test.true))
+    (λ c. omega (arith, still_fits c.before.loop.invariant.1 c.loop-test.true)) (λ c. search rules) (λ c. search rules) (λ c. search rules)
     put-decimal-requires add_at (λ c. search rules) (λ c. search rules) loop-again (λ c. search rules)
-    (λ c. all-put c.before.loop.invariant.1 c.loop-test.false))
+    (λ c. all_put c.before.loop.invariant.1 c.loop-test.false))

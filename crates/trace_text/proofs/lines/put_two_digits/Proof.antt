@@ -1,13 +1,13 @@
 -- Carried by `sets-eq`: three stores, of the digits that the callees give and of the newline.
-use Rattle.trace_rules.proofs.Shared.{two_digits, newline}
+use Rattle.trace_rules.proofs.Shared.{two_digits_lem, newline}
 use Rattle.unit_rules.proofs.Shared.{◌++◌, arith, needs, length-set, sets-eq}
 use Rattle.trace_text.proofs.lines.put_two_digits as this
 
 returns : this.Tie.Need-returns
-unfolding two_digits
+unfolding two_digits_lem
 returns c =
     let a = c.before.before.before.args in
-    rw (c.units.ensures, c.before.tens.ensures) (sets-eq (two_digits a.n ++ newline) a.out.now 0 (omega arith))
+    rw (c.units.ensures, c.before.tens.ensures) (sets-eq (two_digits_lem a.n ++ newline) a.out.now 0 (omega arith))
 
 pub put-two-digits-spec : {M : Type 1} → this.Statement.statement M
 put-two-digits-spec =

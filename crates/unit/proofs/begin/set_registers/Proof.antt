@@ -1,6 +1,6 @@
--- Carried by `next_set`, `set-and-cleared` and `set-alone`. The invariant: the registers before i are set.
+-- Carried by `next_set`, `set_and_cleared` and `set_alone`. The invariant: the registers before i are set.
 use Rattle.unit_rules.proofs.Shared.{◌-◌, ◌≤◌, ◌≡◌, refl, arith, needs, registers_set}
-use Rattle.unit.proofs.Loading.{next_set, set-and-cleared, set-alone}
+use Rattle.unit.proofs.Loading.{next_set, set_and_cleared, set_alone}
 use Rattle.unit.proofs.begin.set_registers as this
 
 abbrev Inv-loop : this.Tie.InvT-loop
@@ -13,4 +13,4 @@ pub set-registers-spec : {M : Type 1} → this.Statement.statement M
 set-registers-spec =
     this.Tie.close
     (this.Tie.spec Inv-loop μ-loop (λ c. (omega arith, refl)) (λ c. search needs) (λ c. search needs) (λ c. search needs) (λ c. search needs)
-    (λ c. search needs) (λ c. search needs) (λ c. (search needs, search next_set)) _ (λ c. search needs) (λ c. search set-and-cleared) (λ c. search set-alone))
+    (λ c. search needs) (λ c. search needs) (λ c. (search needs, search next_set)) _ (λ c. search needs) (λ c. search set_and_cleared) (λ c. search set_alone))

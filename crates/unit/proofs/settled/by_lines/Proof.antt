@@ -4,16 +4,16 @@ use native.Mathlib.Omega.{arith}
 use borrow.Author.Rules.{rules}
 use lib.ListN.{length}
 use Rattle.unit_rules.specs.Sequence.{Whole}
-use Rattle.unit_rules.proofs.WellMade.{well-made-says}
+use Rattle.unit_rules.proofs.WellMade.{well_made_says}
 use Rattle.unit_record.proofs.RecordNumbers.{within}
-use Rattle.unit.proofs.ByLines.{whole_field, in-67-cycles, in-64-lines, by_lines}
+use Rattle.unit.proofs.ByLines.{whole_field, in_67_cycles, in_64_lines, by_lines}
 use Rattle.unit.proofs.settled.by_lines as this
 
 add-c : this.Tie.Need-add-c
-add-c c = let pre = c.before.before.before.before.before.requires in omega (arith, in-67-cycles _ pre.1 _ pre.2)
+add-c c = let pre = c.before.before.before.before.before.requires in omega (arith, in_67_cycles _ pre.1 _ pre.2)
 
 part-execute-lines-end : this.Tie.Need-part-execute-lines-end
-part-execute-lines-end c = search (within, in-64-lines, rules)
+part-execute-lines-end c = search (within, in_64_lines, rules)
 
 returns : this.Tie.Need-returns
 returns c =
@@ -23,13 +23,13 @@ returns c =
     let u = start.args.u in
     let fields = start.well-formed.0.1.1 in
     let enough : u.program.n.0 ≤ length u.program.words
-    = within u.program.words u.program.n.0 64 (search (fields.0, rules)) (well-made-says u start.requires.1).few in
+    = within u.program.words u.program.n.0 64 (search (fields.0, rules)) (well_made_says u start.requires.1).few in
     let whole : Whole u.registers = search (whole_field, fields.1.1.1.0) in
-    by_lines u _ start.requires.0 enough whole start.requires.2 cut.before.cycles-before.ensures cut.cycles-before2.ensures
+    by_lines u _ start.requires.0 enough whole start.requires.2 cut.before.cycles_before.ensures cut.cycles-before2.ensures
     executed.execute-lines.ensures c.before.before.flight-at.ensures c.reassembled.ensures
 
 pub by-lines-spec : {M : Type 1} → this.Statement.statement M
 by-lines-spec =
     this.Tie.close
     (this.Tie.spec add-c _ (λ c. search rules) _ (λ c. search rules) (λ c. search rules) (λ c. search rules) (λ c. search rules) part-execute-lines-end _
-    (λ c. search rules) _ (λ c κs. search in-67-cycles) returns)
+    (λ c. search rules) _ (λ c κs. search in_67_cycles) returns)

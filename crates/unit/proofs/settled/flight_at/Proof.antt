@@ -8,7 +8,7 @@ returns c =
     let worked = counted.before.before in
     let lines = worked.before in
     let places = lines.before.before in
-    all_told _ _ _ places.before.cycles-before.ensures lines.before.cycles-before2.ensures places.fetched-in.ensures
+    all_told _ _ _ places.before.cycles_before.ensures lines.before.cycles-before2.ensures places.fetched-in.ensures
     lines.fetched-in2.ensures worked.read-for.ensures counted.before.decoded.ensures
     counted.count_at.ensures c.before.before.before.before.fetched-in3.ensures
     c.before.before.before.read-for2.ensures c.before.before.decoded2.ensures c.before.written.ensures c.executed.ensures
