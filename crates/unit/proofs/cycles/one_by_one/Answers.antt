@@ -1,8 +1,9 @@
 -- Carried by `turn` and `more`. The invariant: the unit is well made; registers, count and latches make up the unit after the cycles made so far.
-use Rattle.unit_rules.proofs.Shared.{◌-◌, ◌≤◌, true, ⊎_elim, ◌≡◌, refl, ◌∙◌, arith, needs, cycles_of, well_made_of, unit_with}
+use Rattle.unit_rules.proofs.Shared.{◌-◌, ◌≤◌, true, ⊎_elim, ◌≡◌, refl, ◌∙◌, arith, rules, cycles_of, well_made_of, unit_with}
 use Rattle.unit_rules.proofs.WellMade.{well_made_says, last_small}
 use Rattle.unit.proofs.Loop.{none_yet, turn, more, all_made, first_in_range, second_in_range, third_in_range, write_in_range}
 use Rattle.unit.proofs.cycles.one_by_one.Goals as goal
+use Rattle.unit.proofs.cycles.one_by_one.Goals.{then-write, else-write}
 
 pub loop-made-init : goal.loop-made-init
 loop-made-init c = (search rules, omega arith, none_yet _ refl)
@@ -21,12 +22,12 @@ bounds-registers-third c = search third_in_range
 
 pub loop-made-preserved : goal.loop-made-preserved
 loop-made-preserved c =
-    let inv = c.loop-made.inv in (
+    let inv = c.loop-made.invariant in (
       inv.0,
       omega (arith, c.loop-made-test.true),
       more _ _ inv.2
           (turn _ (well_made_says _ inv.0).few c.written-write.ensures
-          (⊎_elim (λ w. w.1 ∙ rw w.0.taken) (λ w. w.1 ∙ rw w.0.left) c.if-write.came)
+          (elim c.if-write.branch [ then-write w ↦ w.registers-is ∙ rw w.if-write.true | else-write w ↦ w.registers-is ∙ rw w.if-write.false ])
           c.read_from-from.ensures
           (λ i. record {
             count = c.next_count-count.ensures i;

@@ -11,7 +11,7 @@ by_lines-requires c = (early _ c.requires.0 (omega arith), search rules, search 
 pub by_lines-requires-2 : goal.by_lines-requires-2
 by_lines-requires-2 c =
     let u = c.args.u in
-    let whole : Whole u.registers = search (whole_field, c.{well-formed}.0.1.1.1.1.1.0) in
+    let whole : Whole u.registers = search (whole_field, c.well_formed.0.1.1.1.1.1.0) in
     let more = c.if-m-lt3.false in (
       settled_then u c.requires.0 _ c.requires.1 more c.one_by_one-settled.ensures whole,
       made_then u c.requires.0 _ c.requires.1 more c.one_by_one-settled.ensures (search rules),
