@@ -6,13 +6,21 @@ ghost use Rattle.console.specs.Output.{Wrote, number_text, refused_text, refused
 
 use std::fmt::Display;
 use std::io;
-use std::io::Write;
+use std::io::{Stderr, Stdout, Write};
 
 // Where a program writes: its standard output and its standard error, or what stands for them.
 #[derive(Drop)]
 pub struct Streams<O: Write, E: Write> {
     pub output: O,
     pub error: E,
+}
+
+// The program's own.
+pub fn standard(rt: &HostRuntime) -> Streams<Stdout, Stderr> {
+    Streams {
+        output: rt.stdout(),
+        error: rt.stderr(),
+    }
 }
 
 // One of the two.
