@@ -14,7 +14,7 @@ use Rattle.table.specs.Fields.{is_li, is_multiply, is_long, is_subtract, is_high
 use Rattle.table.specs.Operation.{Operation, operation_of, multiply_row, short_rows, reads_of, takes_first, takes_second, takes_third}
 use Rattle.table.specs.Operation.Operation.{li, simal, simah, simsl, simsh, slmal, slmah, slmsl, slmsh}
 use Rattle.table.specs.Operation.Operation.{nop, shrhi, au, cntih, ahs, or, bcw, maxws, minws, mlhu, mlhcu, and, clzw, rotw, sfwu, sfhs}
-use Rattle.table.proofs.Rows.{each_choice, all_alike, li_word, multiply_word_lem, short_word}
+use Rattle.table.proofs.Rows.{each_choice, all_alike, li_word_lem, multiply_word_lem, short_word_lem}
 use Rattle.alu_rules.specs.declared.Outcome.{Outcome}
 use Rattle.alu_rules.specs.Result.{result_of, outcome_of}
 
@@ -106,7 +106,7 @@ module _ (w : ℕ) {l : Bool} (is-li : l ≡ is_li w) where
   module _ (yes : l ≡ true) where
     pub li_result : (a b c : Register) {r : Outcome} → r ≡ unmarked (with_halfword (index_of w) (immediate_of w) a) → r ≡ outcome_of w a b c
     unfolding outcome_of result_of
-    li_result a b c e = e ∙ sym (ap (λ (o : Operation). result_of o w a b c) (li_word w is-li yes))
+    li_result a b c e = e ∙ sym (ap (λ (o : Operation). result_of o w a b c) (li_word_lem w is-li yes))
 
   module _ {m : Bool} (other : l ≡ false) (is-multiply : m ≡ is_multiply w) where
     module _ (yes : m ≡ true) where
@@ -123,7 +123,7 @@ module _ (w : ℕ) {l : Bool} (is-li : l ≡ is_li w) where
       short_result a b c e =
           e
           ∙ short_third (code_of w) w a b zero_register c
-          ∙ sym (ap (λ (o : Operation). result_of o w a b c) (short_word w is-li other is-multiply no))
+          ∙ sym (ap (λ (o : Operation). result_of o w a b c) (short_word_lem w is-li other is-multiply no))
 
 -- a code below 16 that is none of 0 to 14 is 15. `Others c k`: c is none of 0 to k - 1
 abbrev pub Others : ℕ → ℕ → Type 0

@@ -9,7 +9,7 @@ use native.Mathlib.Numerals.{add-one}
 use borrow.Rule.Slice.PartMut.{mid_of, post_of, put_mid, mid_len}
 use lib.ListN.{length, get_or, take, drop, set, length-append, length-drop, drop_of_length-le}
 use lib.Seq.{take_at, drop_at, drop-drop, take_all, take-suc, drop-cons, set_at, append_snoc, length-take-le}
-use Rattle.buffer.specs.Front.{in_front, from_start}
+use Rattle.buffer.specs.Front.{at_front, from_start}
 
 module _ {A : Type 0} where
   -- the part from a on to the end, and nothing behind it
@@ -20,13 +20,13 @@ module _ {A : Type 0} where
   rest_post a xs = drop_of_length-le (drop a xs) {i = length xs - a} (omega (arith, length-drop a xs))
 
   -- what is put at the front of the part from a on stands in the whole from a on
-  pub put_from : (a : ℕ) (q xs ys : List A) → ys ≡ in_front q (mid_of a (length xs - a) xs) → put_mid a (length xs - a) xs ys ≡ from_start a q xs
+  pub put_from : (a : ℕ) (q xs ys : List A) → ys ≡ at_front q (mid_of a (length xs - a) xs) → put_mid a (length xs - a) xs ys ≡ from_start a q xs
   put_from a q xs ys e =
-      let part : ys ≡ in_front q (drop a xs) = e ∙ ap (in_front q) (rest_mid a xs) in
+      let part : ys ≡ at_front q (drop a xs) = e ∙ ap (at_front q) (rest_mid a xs) in
       rw (rest_post a xs, append-nil ys, part)
 
   -- q put from where p ends stands behind p
-  pub then_from : (a : ℕ) (p q old xs : List A) → length p ≡ a → xs ≡ in_front p old → from_start a q xs ≡ in_front (p ++ q) old
+  pub then_from : (a : ℕ) (p q old xs : List A) → length p ≡ a → xs ≡ at_front p old → from_start a q xs ≡ at_front (p ++ q) old
   then_from a p q old xs n s =
       let behind : drop a xs ≡ drop a old = ap (drop a) s ∙ drop_at p (drop (length p) old) a n ∙ ap (λ (k : ℕ). drop k old) n in
       let front : take a xs ≡ p = ap (take a) s ∙ take_at p (drop (length p) old) a n in
@@ -34,13 +34,13 @@ module _ {A : Type 0} where
       rw (front, behind, drop-drop (length q) a old, size) (sym (append_assoc p q (drop (a + length q) old)))
 
   -- q put at the front of the part behind p stands behind p
-  pub then_front : (a : ℕ) (p q old xs ys : List A) → length p ≡ a → xs ≡ in_front p old → ys ≡ in_front q (mid_of a (length xs - a) xs)
-      → put_mid a (length xs - a) xs ys ≡ in_front (p ++ q) old
+  pub then_front : (a : ℕ) (p q old xs ys : List A) → length p ≡ a → xs ≡ at_front p old → ys ≡ at_front q (mid_of a (length xs - a) xs)
+      → put_mid a (length xs - a) xs ys ≡ at_front (p ++ q) old
   then_front a p q old xs ys n s e = put_from a q xs ys e ∙ then_from a p q old xs n s
 
   -- the next element of s stored behind those before it
-  pub next_stored : (s old out : List A) (i : ℕ) (z : A) → length s ≤ length old → i < length s → out ≡ in_front (take i s) old
-      → set out i (get_or s i z) ≡ in_front (take (i + 1) s) old
+  pub next_stored : (s old out : List A) (i : ℕ) (z : A) → length s ≤ length old → i < length s → out ≡ at_front (take i s) old
+      → set out i (get_or s i z) ≡ at_front (take (i + 1) s) old
   next_stored s old out i z room h o =
       let n : length (take i s) ≡ i = length-take-le i s (omega arith) in
       let m : length (take (suc i) s) ≡ suc i = length-take-le (suc i) s h in
@@ -48,18 +48,18 @@ module _ {A : Type 0} where
       (set_at (take i s) (get_or old i z) (drop (suc i) old) (get_or s i z) i n ∙ sym (append_snoc (take i s) (get_or s i z) (drop (suc i) old)))
 
   -- an element stored behind what stands at the front
-  pub then_stored : (a : ℕ) (b : A) (p old xs : List A) → length p ≡ a → a < length old → xs ≡ in_front p old → set xs a b ≡ in_front (p ++ b ∷ []) old
+  pub then_stored : (a : ℕ) (b : A) (p old xs : List A) → length p ≡ a → a < length old → xs ≡ at_front p old → set xs a b ≡ at_front (p ++ b ∷ []) old
   then_stored a b p old xs n h e =
       let size : length (p ++ b ∷ []) ≡ suc a = omega (arith, length-append p (b ∷ [])) in
       rw (e, size, n, drop-cons old a b h, append_snoc p b (drop (suc a) old)) (set_at p (get_or old a b) (drop (suc a) old) b a n)
 
   -- as many elements as there is room for: all of them, where they fit
-  pub all_fit : (p old : List A) → length p ≤ length old → in_front (take (length old) p) old ≡ in_front p old
-  all_fit p old h = ap (λ (q : List A). in_front q old) (take_all (length old) p h)
+  pub all_fit : (p old : List A) → length p ≤ length old → at_front (take (length old) p) old ≡ at_front p old
+  all_fit p old h = ap (λ (q : List A). at_front q old) (take_all (length old) p h)
 
   -- in the part from a on
-  pub all_fit_from : (a : ℕ) (p xs : List A) {ys : List A} → ys ≡ in_front (take (length (mid_of a (length xs - a) xs)) p) (mid_of a (length xs - a) xs)
-      → a + length p ≤ length xs → ys ≡ in_front p (mid_of a (length xs - a) xs)
+  pub all_fit_from : (a : ℕ) (p xs : List A) {ys : List A} → ys ≡ at_front (take (length (mid_of a (length xs - a) xs)) p) (mid_of a (length xs - a) xs)
+      → a + length p ≤ length xs → ys ≡ at_front p (mid_of a (length xs - a) xs)
   all_fit_from a p xs e h = e ∙ all_fit p (mid_of a (length xs - a) xs) (omega (arith, mid_len a (length xs) xs (le_refl (length xs))))
 
 -- a loop that has gone through its list: what it made of the elements before i it made of all

@@ -8,7 +8,7 @@ use contract.Lifetimes.{Lfts}
 use borrow.Fn.Kinds.{Dens, ended_of}
 use denote.Triple.Clauses.{Lasts, at_exit}
 use lib.ListN.{length, take}
-use Rattle.buffer.specs.Front.{in_front}
+use Rattle.buffer.specs.Front.{at_front}
 use Rattle.table.specs.declared.Edition.{Edition}
 use Rattle.job_rules.specs.declared.ReadJob.{ReadJob}
 use Rattle.job_rules.specs.declared.Written.{Written}
@@ -76,10 +76,10 @@ read_written w r e f =
 -- has bytes below 2^8.
 pub written_read : (r : Reading) (w : Writing) → r.answer.refusal ≡ 0 → Bytes (file r) → edition w ≡ r.answer.job.program.edition
     → words w ≡ lines_of r.answer.job.program → bytes w ≡ register_bytes_of r.answer.job → length (file r) ≤ length (before w)
-    → (w.answer ≡ written_of 0 0 (length (file r))) × (after w ≡ in_front (file r) (before w))
+    → (w.answer ≡ written_of 0 0 (length (file r))) × (after w ≡ at_front (file r) (before w))
 written_read r w e b d f g room =
     let is = read_is r in
-    let again : ◌≡◌ {A = Written × List ℕ} (w.answer, after w) (written_of 0 0 (length (file r)), in_front (file r) (before w))
+    let again : ◌≡◌ {A = Written × List ℕ} (w.answer, after w) (written_of 0 0 (length (file r)), at_front (file r) (before w))
     = write_is w
     ∙ (λ i. write_of ((d ∙ ap (λ (v : ReadJob). v.job.program.edition) is) i) ((f ∙ ap (λ (v : ReadJob). lines_of v.job.program) is) i)
     ((g ∙ ap (λ (v : ReadJob). register_bytes_of v.job) is) i) (before w))

@@ -4,8 +4,8 @@
 use Rattle.job_rules.proofs.Shared.{ℕ, zero, suc, ◌+◌, ◌-◌, ◌*◌, ◌≤◌, ◌<◌, ◌≡◌, refl, sym, ap, ◌∙◌, List, [], ◌∷◌, ◌++◌, flat_map, append_assoc}
 use Rattle.job_rules.proofs.Shared.{append-nil, add_assoc, add-zero, arith, length, get_or, take, drop, set, replicate, length-append}
 use Rattle.job_rules.proofs.Shared.{length-drop, drop_of_length-le, take-append-drop, take_at, set_at, append_snoc, drop-drop, get_or-drop}
-use Rattle.job_rules.proofs.Shared.{take-suc, length-take-le, get_or-take, in_front, Register, zero_register, word_at, of_bytes, Bytes, Edition}
-use Rattle.job_rules.proofs.Shared.{One, Two, instructions_at, registers_at, four_bytes_lem, header_bytes, register_count, encode, pieces, registers_of, filled}
+use Rattle.job_rules.proofs.Shared.{take-suc, length-take-le, get_or-take, at_front, Register, zero_register, word_at, of_bytes, Bytes, Edition}
+use Rattle.job_rules.proofs.Shared.{One, Two, instructions_at, registers_at, four_bytes, header_bytes, register_count, encode, pieces, registers_of, filled}
 use native.Mathlib.Numerals.{add-one, unary_clauses}
 use borrow.Rule.Slice.PartMut.{mid_of, put_mid}
 use Rattle.buffer.proofs.Parts.{then_front}
@@ -65,23 +65,23 @@ module _ {A : Type 0} (bytes : A → List ℕ) where
     pieces_size (x ∷ xs) = simp unary_clauses (length-append (bytes x) (flat_map bytes xs) ∙ omega (arith, each x, pieces_size xs))
 
     -- a turn of the loop that writes: the next piece at the front of the part behind those before it
-    pub next_written : (none : A) (xs : List A) (old out part : List ℕ) (i : ℕ) → i < length xs → out ≡ in_front (flat_map bytes (take i xs)) old
-        → part ≡ in_front (bytes (get_or xs i none)) (mid_of (k * i) (length out - k * i) out)
-        → put_mid (k * i) (length out - k * i) out part ≡ in_front (flat_map bytes (take (i + 1) xs)) old
+    pub next_written : (none : A) (xs : List A) (old out part : List ℕ) (i : ℕ) → i < length xs → out ≡ at_front (flat_map bytes (take i xs)) old
+        → part ≡ at_front (bytes (get_or xs i none)) (mid_of (k * i) (length out - k * i) out)
+        → put_mid (k * i) (length out - k * i) out part ≡ at_front (flat_map bytes (take (i + 1) xs)) old
     next_written none xs old out part i h e f =
         let n : length (flat_map bytes (take i xs)) ≡ k * i = pieces_size (take i xs) ∙ ap (λ (j : ℕ). k * j) (length-take-le i xs (omega arith)) in
         then_front (k * i) (flat_map bytes (take i xs)) (bytes (get_or xs i none)) old out part n e f
         ∙ rw (add-one, take-suc xs i none h, pieces_join (take i xs) (get_or xs i none ∷ []), one_piece (get_or xs i none))
 
     -- the same of a piece that is copied from a buffer of its own
-    pub next_copied : (none : A) (xs : List A) (old out part b : List ℕ) (i : ℕ) → i < length xs → out ≡ in_front (flat_map bytes (take i xs)) old
-        → b ≡ bytes (get_or xs i none) → part ≡ in_front b (mid_of (k * i) (length out - k * i) out)
-        → put_mid (k * i) (length out - k * i) out part ≡ in_front (flat_map bytes (take (i + 1) xs)) old
+    pub next_copied : (none : A) (xs : List A) (old out part b : List ℕ) (i : ℕ) → i < length xs → out ≡ at_front (flat_map bytes (take i xs)) old
+        → b ≡ bytes (get_or xs i none) → part ≡ at_front b (mid_of (k * i) (length out - k * i) out)
+        → put_mid (k * i) (length out - k * i) out part ≡ at_front (flat_map bytes (take (i + 1) xs)) old
     next_copied none xs old out part b i h e g f =
-        next_written none xs old out part i h e (f ∙ ap (λ (l : List ℕ). in_front l (mid_of (k * i) (length out - k * i) out)) g)
+        next_written none xs old out part i h e (f ∙ ap (λ (l : List ℕ). at_front l (mid_of (k * i) (length out - k * i) out)) g)
 
     -- pieces that fill the buffer
-    pub pieces_fill : (xs : List A) (old out : List ℕ) → length old ≤ k * length xs → out ≡ in_front (flat_map bytes xs) old → out ≡ flat_map bytes xs
+    pub pieces_fill : (xs : List A) (old out : List ℕ) → length old ≤ k * length xs → out ≡ at_front (flat_map bytes xs) old → out ≡ flat_map bytes xs
     pieces_fill xs old out h e =
         let all = drop_of_length-le old {i = length (flat_map bytes xs)} (omega (arith, pieces_size xs)) in
         e ∙ ap (λ (l : List ℕ). flat_map bytes xs ++ l) all ∙ append-nil (flat_map bytes xs)
@@ -153,15 +153,15 @@ module _ (l : List ℕ) where
   pub too_few_bytes : length l < 16 → zero_register ≡ get_or (registers_of (register_count l) l) 0 zero_register
   too_few_bytes h = first_of_none (register_count l) l (omega arith)
 
-  pub first_sixteen : {v : Register} {b : List ℕ} → 16 ≤ length l → b ≡ in_front (take 16 l) (replicate 16 0) → v ≡ of_bytes b
+  pub first_sixteen : {v : Register} {b : List ℕ} → 16 ≤ length l → b ≡ at_front (take 16 l) (replicate 16 0) → v ≡ of_bytes b
       → v ≡ get_or (registers_of (register_count l) l) 0 zero_register
   first_sixteen h e f =
-      let sixteen : in_front (take 16 l) (replicate 16 0) ≡ take 16 l = rw (length-take-le 16 l h) (append-nil (take 16 l)) in
+      let sixteen : at_front (take 16 l) (replicate 16 0) ≡ take 16 l = rw (length-take-le 16 l h) (append-nil (take 16 l)) in
       first_of_some (register_count l) l (λ none. omega arith) (register_there l (e ∙ sixteen) f)
 
 -- ---- a whole job
 
-four_bytes_lem : (w : ℕ) → length (four_bytes_lem w) ≡ 4
+four_bytes_lem : (w : ℕ) → length (four_bytes w) ≡ 4
 four_bytes_lem w = refl
 
 -- where the instructions stand: behind the four numbers, and so near that two bytes say it
@@ -178,24 +178,24 @@ module _ (edition : Edition) (words bytes : List ℕ) where
   abbrev header : List ℕ
   header = header_bytes edition (length words) (register_count bytes)
 
-  pub header_and_words : length (header ++ flat_map four_bytes_lem words) ≡ registers_at edition (length words)
+  pub header_and_words : length (header ++ flat_map four_bytes words) ≡ registers_at edition (length words)
   header_and_words =
       let size = header_size edition (length words) (register_count bytes) in
-      omega (arith, length-append header (flat_map four_bytes_lem words), pieces_size four_bytes_lem 4 four_bytes_lem words)
+      omega (arith, length-append header (flat_map four_bytes words), pieces_size four_bytes 4 four_bytes_lem words)
 
   pub job_size : length (encode edition words bytes) ≡ instructions_at edition + 4 * length words + length bytes
   unfolding encode
-  job_size = omega (arith, length-append (header ++ flat_map four_bytes_lem words) bytes, header_and_words)
+  job_size = omega (arith, length-append (header ++ flat_map four_bytes words) bytes, header_and_words)
 
   -- header, words and register bytes, each at the front of the part behind the one before
   pub job_put : (at : ℕ) (old x y z : List ℕ) → at ≡ instructions_at edition
-      → x ≡ in_front header old
-      → y ≡ in_front (flat_map four_bytes_lem words) (mid_of at (length x - at) x)
-      → z ≡ in_front bytes (mid_of (at + 4 * length words) (length (put_mid at (length x - at) x y) - (at + 4 * length words)) (put_mid at (length x - at) x y))
+      → x ≡ at_front header old
+      → y ≡ at_front (flat_map four_bytes words) (mid_of at (length x - at) x)
+      → z ≡ at_front bytes (mid_of (at + 4 * length words) (length (put_mid at (length x - at) x y) - (at + 4 * length words)) (put_mid at (length x - at) x y))
       → put_mid (at + 4 * length words) (length (put_mid at (length x - at) x y) - (at + 4 * length words)) (put_mid at (length x - at) x y) z
-      ≡ in_front (encode edition words bytes) old
+      ≡ at_front (encode edition words bytes) old
   unfolding encode
   job_put at old x y z there e f g =
       let size = header_size edition (length words) (register_count bytes) in
-      then_front (at + 4 * length words) (header ++ flat_map four_bytes_lem words) bytes old _ z (omega (arith, header_and_words))
-      (then_front at header (flat_map four_bytes_lem words) old x y (omega arith) e f) g
+      then_front (at + 4 * length words) (header ++ flat_map four_bytes words) bytes old _ z (omega (arith, header_and_words))
+      (then_front at header (flat_map four_bytes words) old x y (omega arith) e f) g

@@ -1,7 +1,7 @@
 -- What reader and writer answer by their tests, and what it says of a file or a job that none of them refuses it. Carried by the laws of decisions.
 -- Assumes nothing.
 use Rattle.job_rules.proofs.Shared.{ℕ, ◌+◌, ◌*◌, ◌%◌, ◌≤◌, ◌<◌, ◌≡◌, refl, sym, ap, ◌∙◌, List, Bool, true, false, cond, not, arith}
-use Rattle.job_rules.proofs.Shared.{eq-eqb, ne_eqb, ltb-false, eqb-true, not-false, eqb, length, get_or, take, drop, take_at, in_front, Register}
+use Rattle.job_rules.proofs.Shared.{eq-eqb, ne_eqb, ltb-false, eqb-true, not-false, eqb, length, get_or, take, drop, take_at, at_front, Register}
 use Rattle.job_rules.proofs.Shared.{zero_register, word_at, of_bytes, Edition, One, Two, WORD, NONZERO, first_bad, Counts, Refused, Job, ReadJob, Written}
 use Rattle.job_rules.proofs.Shared.{instructions_at, registers_at, size_of, register_count, encode, two_at, edition_in, says_edition, words_in}
 use Rattle.job_rules.proofs.Shared.{registers_of, may_hold, filled, job_of, accepted_of, refused_of, tested_of, header_of, number_of, body_of, answer_for}
@@ -125,7 +125,7 @@ module _ (edition : Edition) (words bytes out : List ℕ) {answer : Written} (as
   unfolding write_of
   not_written h = rw (← asked, ne_eqb _ _ h)
 
-  pub job_written : {new : List ℕ} → answer.refusal ≡ 0 → new ≡ in_front (encode edition words bytes) out → (answer, new) ≡ write_of edition words bytes out
+  pub job_written : {new : List ℕ} → answer.refusal ≡ 0 → new ≡ at_front (encode edition words bytes) out → (answer, new) ≡ write_of edition words bytes out
   unfolding write_of
   job_written h e = rw (← asked, eq-eqb _ _ h, e)
 
@@ -170,7 +170,7 @@ unfolding write_of
 accepts edition words bytes out e = asked_accepts edition words bytes (length out) e
 
 pub written : (edition : Edition) (words bytes out : List ℕ) → Accepts edition words bytes (length out)
-    → write_of edition words bytes out ≡ (written_of 0 0 (length (encode edition words bytes)), in_front (encode edition words bytes) out)
+    → write_of edition words bytes out ≡ (written_of 0 0 (length (encode edition words bytes)), at_front (encode edition words bytes) out)
 written edition words bytes out a =
     sym (job_written edition words bytes out (asked_fits edition words bytes (length out) a) refl refl)
 

@@ -4,7 +4,7 @@
 use Rattle.job_rules.proofs.Shared.{ℕ, suc, ◌+◌, ◌*◌, ◌/◌, ◌%◌, ◌^◌, ◌≤◌, ◌≡◌, refl, sym, ap, subst, ◌∙◌, Bool, true, false, cond, List, []}
 use Rattle.job_rules.proofs.Shared.{◌∷◌, ◌++◌, flat_map, append_assoc, append-nil, arith, ltb-true, eqb-true, ltb, eqb, length, get_or, drop, length-drop}
 use Rattle.job_rules.proofs.Shared.{drop_of_length-le, take-append_seam, drop_at, drop-drop, Register, zero_register, word_at, of_bytes, bytes_of}
-use Rattle.job_rules.proofs.Shared.{Edition, One, Two, first_bad, Job, ReadJob, Bytes, instructions_at, registers_at, two_bytes, four_bytes_lem}
+use Rattle.job_rules.proofs.Shared.{Edition, One, Two, first_bad, Job, ReadJob, Bytes, instructions_at, registers_at, two_bytes, four_bytes}
 use Rattle.job_rules.proofs.Shared.{edition_bytes, header_bytes, register_count, encode, two_at, edition_in, says_edition, words_in, registers_of}
 use Rattle.job_rules.proofs.Shared.{may_hold, job_of, accepted_of, body_of, read_as, read_of, lines_of, register_bytes_of}
 use mathlib.Core.Bool.{and-eq-true_iff}
@@ -21,7 +21,7 @@ good_first : (t : Bool) {n m : ℕ} → suc n ≤ cond t (suc m) 0 → (t ≡ tr
 good_first true h = (refl, omega arith)
 good_first false h = absurd (omega arith)
 
-words_back : (words rest : List ℕ) → length words ≤ first_bad words → words_in (length words) (flat_map four_bytes_lem words ++ rest) ≡ words
+words_back : (words rest : List ℕ) → length words ≤ first_bad words → words_in (length words) (flat_map four_bytes words ++ rest) ≡ words
 unfolding flat_map first_bad
 words_back [] rest h = refl
 words_back (w ∷ words) rest h =
@@ -85,15 +85,15 @@ module _ (edition : Edition) (words bytes : List ℕ) (w : Writable edition word
   says_words =
       let header = header_bytes edition (length words) (register_count bytes) in
       ap (words_in (length words))
-      (ap (drop (instructions_at edition)) (append_assoc header (flat_map four_bytes_lem words) bytes)
-      ∙ drop_at header (flat_map four_bytes_lem words ++ bytes) (instructions_at edition) (header_size edition (length words) (register_count bytes)))
+      (ap (drop (instructions_at edition)) (append_assoc header (flat_map four_bytes words) bytes)
+      ∙ drop_at header (flat_map four_bytes words ++ bytes) (instructions_at edition) (header_size edition (length words) (register_count bytes)))
       ∙ words_back words bytes w.good
 
   pub says_bytes : drop (registers_at edition (length words)) file ≡ bytes
   unfolding encode
   says_bytes =
       let header = header_bytes edition (length words) (register_count bytes) in
-      drop_at (header ++ flat_map four_bytes_lem words) bytes (registers_at edition (length words)) (header_and_words edition words bytes)
+      drop_at (header ++ flat_map four_bytes words) bytes (registers_at edition (length words)) (header_and_words edition words bytes)
 
   read_as_encoded : read_as edition file ≡ accepted_of (job_of edition words (registers_of (register_count bytes) bytes))
   unfolding body_of
@@ -119,7 +119,7 @@ two_back l b i {rest} h e =
     (λ j. low j ∷ high j ∷ rest)
     ∙ sym (next l i (i + 1) (omega arith) (omega arith) (next l (i + 1) (i + 2) (omega arith) (omega arith) e))
 
-word_back : (l : List ℕ) → Bytes l → 4 ≤ length l → four_bytes_lem (word_at l 0) ++ drop 4 l ≡ l
+word_back : (l : List ℕ) → Bytes l → 4 ≤ length l → four_bytes (word_at l 0) ++ drop 4 l ≡ l
 word_back l b h = bytes_of_word_at l b 0 h refl
 
 register_back : (l : List ℕ) → Bytes l → 16 ≤ length l → bytes_of (of_bytes l) ++ drop 16 l ≡ l
@@ -180,18 +180,18 @@ module _ (edition : Edition) (l : List ℕ) (b : Bytes l) (a : Accepted edition 
       sym (append-nil (flat_map bytes_of registers)) ∙ ap (λ (t : List ℕ). flat_map bytes_of registers ++ t) (sym none)
       ∙ pieces_back bytes_of of_bytes 16 register_back r behind (bytes_behind (registers_at edition n) l b) (omega arith)
 
-  words_and_registers_back : flat_map four_bytes_lem words ++ flat_map bytes_of registers ≡ drop at l
+  words_and_registers_back : flat_map four_bytes words ++ flat_map bytes_of registers ≡ drop at l
   words_and_registers_back =
       let size = a.header.right_size in
       let counted = length-drop at l in
-      ap (λ (t : List ℕ). flat_map four_bytes_lem words ++ t) (registers_back ∙ sym (drop-drop (4 * n) at l))
-      ∙ pieces_back four_bytes_lem (λ (m : List ℕ). word_at m 0) 4 word_back n (drop at l) (bytes_behind at l b) (omega arith)
+      ap (λ (t : List ℕ). flat_map four_bytes words ++ t) (registers_back ∙ sym (drop-drop (4 * n) at l))
+      ∙ pieces_back four_bytes (λ (m : List ℕ). word_at m 0) 4 word_back n (drop at l) (bytes_behind at l b) (omega arith)
 
   file_back : encode edition words (flat_map bytes_of registers) ≡ l
   unfolding encode
   file_back =
-      (λ i. header_bytes edition (words_counted i) (count_again i) ++ flat_map four_bytes_lem words ++ flat_map bytes_of registers)
-      ∙ append_assoc (header_bytes edition n r) (flat_map four_bytes_lem words) (flat_map bytes_of registers)
+      (λ i. header_bytes edition (words_counted i) (count_again i) ++ flat_map four_bytes words ++ flat_map bytes_of registers)
+      ∙ append_assoc (header_bytes edition n r) (flat_map four_bytes words) (flat_map bytes_of registers)
       ∙ ap (λ (t : List ℕ). header_bytes edition n r ++ t) words_and_registers_back
       ∙ header_back
 

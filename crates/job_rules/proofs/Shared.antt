@@ -11,7 +11,7 @@ pub use borrow.Author.Tests.{eq-eqb, ne_eqb, ltb-false, eqb-true, not-false, ltb
 pub use lib.ListN.{length, get_or, take, drop, set, replicate, length-append, length-drop, drop_of_length-le, take-append-drop}
 pub use lib.Seq.{set_at, append_snoc, drop-drop, get_or-drop, take-suc, length-take-le, take_at, take-append_seam, drop_at, get_or-take}
 pub use lib.Dec.{ltb, eqb}
-pub use Rattle.buffer.specs.Front.{in_front}
+pub use Rattle.buffer.specs.Front.{at_front}
 pub use Rattle.register.specs.declared.Register.{Register}
 pub use Rattle.register.specs.Layout.{word_at, of_bytes, zero_register, bytes_of}
 pub use Rattle.table.specs.declared.Edition.{Edition}
@@ -19,7 +19,7 @@ pub use Rattle.table.specs.declared.Edition.TheVariants.{One, Two}
 pub use Rattle.table.specs.Refusal.{COUNT, REGS, PLACE, LENGTH, WORD, EDITION, NONZERO}
 unfoldable pub use Rattle.table.specs.Refusal.{first_bad}
 pub use Rattle.job_rules.specs.Program.{lines_of, may_hold}
-pub use Rattle.job_rules.specs.Layout.{Bytes, instructions_at, four_bytes_lem, header_bytes, register_count, pieces, registers_at, size_of, two_at}
+pub use Rattle.job_rules.specs.Layout.{Bytes, instructions_at, four_bytes, header_bytes, register_count, pieces, registers_at, size_of, two_at}
 pub use Rattle.job_rules.specs.Layout.{edition_bytes, edition_in, says_edition}
 pub use Rattle.job_rules.specs.Layout.{words_in, registers_of, two_bytes, LARGEST}
 unfoldable pub use Rattle.job_rules.specs.Layout.{encode}

@@ -3,7 +3,7 @@
 -- it over what the two calls promise, `write_of` and `read_of`.
 -- Assumes nothing.
 use Rattle.job_rules.proofs.Shared.{ℕ, filled, ◌≤◌, ◌+◌, ◌*◌, le_refl, arith, ◌≡◌, refl, sym, ap, ◌∙◌, Bool, true, false, not, ◌||◌, List, []}
-use Rattle.job_rules.proofs.Shared.{◌∷◌, flat_map, ne_eqb, ltb, eqb, length, get_or, take, drop, replicate, take-append_seam, in_front, Register}
+use Rattle.job_rules.proofs.Shared.{◌∷◌, flat_map, ne_eqb, ltb, eqb, length, get_or, take, drop, replicate, take-append_seam, at_front, Register}
 use Rattle.job_rules.proofs.Shared.{zero_register, bytes_of, Edition, One, Two, PLACE, first_bad, Counts, Refused, Job, ReadJob, Written, Bytes}
 use Rattle.job_rules.proofs.Shared.{instructions_at, LARGEST, registers_at, size_of, register_count, encode, two_at, edition_in, words_in, registers_of}
 use Rattle.job_rules.proofs.Shared.{lines_of, may_hold, job_of, accepted_of, refused_of, tested_of, header_of, body_of, answer_for, read_as, read_of}
@@ -32,11 +32,11 @@ read_written edition words bytes out e =
 -- Writing what was read from an accepted file, in the edition that was read, gives the same bytes.
 pub written_read : (l out : List ℕ) → Bytes l → (read_of l).refusal ≡ 0 → length l ≤ length out
     → write_of (read_of l).job.program.edition (lines_of (read_of l).job.program) (register_bytes_of (read_of l).job) out
-    ≡ (written_of 0 0 (length l), in_front l out)
+    ≡ (written_of 0 0 (length l), at_front l out)
 written_read l out b e room =
     let a = accepted (edition_in l) l e in
     let again = file_again (edition_in l) l b a in
-    written _ _ _ out (accepts_again (edition_in l) l b a out room) ∙ (λ i. (written_of 0 0 (length (again i)), in_front (again i) out))
+    written _ _ _ out (accepts_again (edition_in l) l b a out room) ∙ (λ i. (written_of 0 0 (length (again i)), at_front (again i) out))
 
 -- A job's register bytes, as the writer takes them, are the first 16 r of the bytes of its 32 registers.
 pub registers_handed : (j : Job) → j.r ≤ length j.registers → take (16 * j.r) (flat_map bytes_of j.registers) ≡ register_bytes_of j
@@ -69,7 +69,7 @@ same_job l l' b b' e e' same =
 abbrev pub Output : List ℕ → Type 0
 Output l =
     (edition : Edition) × (words : List ℕ) × (bytes : List ℕ) × Bytes bytes
-    × ((out : List ℕ) → length l ≤ length out → write_of edition words bytes out ≡ (written_of 0 0 (length l), in_front l out))
+    × ((out : List ℕ) → length l ≤ length out → write_of edition words bytes out ≡ (written_of 0 0 (length l), at_front l out))
 
 -- A file is accepted exactly when it is the writer's output for some job.
 pub accepted_exactly : (l : List ℕ) → Bytes l → ((read_of l).refusal ≡ 0) ↔ Output l

@@ -34,8 +34,8 @@ bytes_to_read = 781
 abbrev pub two_bytes : ℕ → List ℕ
 two_bytes v = v % 2 ^ 8 ∷ v / 2 ^ 8 % 2 ^ 8 ∷ []
 
-abbrev pub four_bytes_lem : ℕ → List ℕ
-four_bytes_lem w = bytes_of_word w []
+abbrev pub four_bytes : ℕ → List ℕ
+four_bytes w = bytes_of_word w []
 
 -- "bytes 8-9 hold 2, bytes 10-11 zero": in the second edition; in the first nothing stands before the instructions
 abbrev pub edition_bytes : Edition → List ℕ
@@ -53,7 +53,7 @@ register_count bytes = length bytes / 16
 
 -- the bytes of a job, from its instruction words and its registers' bytes
 unfoldable pub encode : Edition → List ℕ → List ℕ → List ℕ
-encode edition words bytes = header_bytes edition (length words) (register_count bytes) ++ flat_map four_bytes_lem words ++ bytes
+encode edition words bytes = header_bytes edition (length words) (register_count bytes) ++ flat_map four_bytes words ++ bytes
 
 -- ---- what is read
 

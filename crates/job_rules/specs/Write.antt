@@ -2,7 +2,7 @@
 -- Assumes nothing.
 use Rattle.std.specs.Prelude.{ℕ, ◌%◌, cond, not, ◌||◌, ltb, eqb, length, get_or, take}
 use mathlib.Core.List.{List, [], ◌∷◌, flat_map}
-use Rattle.buffer.specs.Front.{in_front}
+use Rattle.buffer.specs.Front.{at_front}
 use Rattle.register.specs.Layout.{zero_register, bytes_of}
 use Rattle.table.specs.declared.Edition.{Edition}
 use Rattle.table.specs.Refusal.{COUNT, REGS, WORD, NONZERO, ROOM, first_bad}
@@ -33,7 +33,7 @@ size_or_refusal edition words bytes room =
 unfoldable pub write_of : Edition → List ℕ → List ℕ → List ℕ → Written × List ℕ
 write_of edition words bytes out =
     let answer : Written = size_or_refusal edition words bytes (length out) in
-    (answer, cond (eqb answer.refusal 0) (in_front (encode edition words bytes) out) out)
+    (answer, cond (eqb answer.refusal 0) (at_front (encode edition words bytes) out) out)
 
 -- the bytes of a job's r registers, as the writer takes them beside the lines of its program
 abbrev pub register_bytes_of : Job → List ℕ

@@ -7,7 +7,7 @@ use mathlib.Core.List.{List}
 use borrow.Rule.Slice.PartMut.{mid_of, put_mid}
 use lib.Dec.{leb}
 use lib.ListN.{length}
-use Rattle.buffer.specs.Front.{in_front}
+use Rattle.buffer.specs.Front.{at_front}
 use Rattle.buffer.proofs.Parts.{put_from}
 use Rattle.buffer.proofs.Room.{enough, too_little}
 use Rattle.table.specs.Refusal.{ROOM}
@@ -16,7 +16,7 @@ use Rattle.row_rules.proofs.Theorems.{no_room, row_fits}
 use Rattle.row_rules.specs.Text.{row_text, row_size, row_at}
 
 module _ (r : Row) (start : ℕ) (buffer : List ℕ) {t : Bool} (test : t ≡ leb (start + row_size) (length buffer)) where
-  pub row_written : t ≡ true → {part : List ℕ} → part ≡ in_front (row_text r) (mid_of start (length buffer - start) buffer)
+  pub row_written : t ≡ true → {part : List ℕ} → part ≡ at_front (row_text r) (mid_of start (length buffer - start) buffer)
       → (0, put_mid start (length buffer - start) buffer part) ≡ row_at r start buffer
   row_written h e = rw (put_from start (row_text r) buffer _ e) (row_fits r start buffer (enough (length buffer) start row_size test h))
 

@@ -8,10 +8,10 @@ use Rattle.row_rules.specs.declared.Stage.TheVariants.{Empty, Holds}
 use Rattle.row_rules.specs.declared.Flags.{Flags}
 use Rattle.row_rules.specs.declared.Change.{Change}
 use Rattle.row_rules.specs.declared.Change.TheVariants.{Nothing, To}
-use Rattle.row_rules.specs.Text.{two_digits_lem, stage_text, flags_text, number_text, register_text, value_text, mark_text}
+use Rattle.row_rules.specs.Text.{two_digits, stage_text, flags_text, number_text, register_text, value_text, mark_text}
 
-pub two_long : (n : ℕ) → length (two_digits_lem n) ≡ 2
-unfolding two_digits_lem
+pub two_long : (n : ℕ) → length (two_digits n) ≡ 2
+unfolding two_digits
 two_long n = refl
 
 pub stage_long : (s : Stage) → length (stage_text s) ≡ 7
@@ -24,7 +24,7 @@ unfolding flags_text
 flags_long f = refl
 
 pub number_long : (x : Change) → length (number_text x) ≡ 2
-unfolding number_text two_digits_lem
+unfolding number_text two_digits
 number_long Nothing = refl
 number_long (To p o) = refl
 

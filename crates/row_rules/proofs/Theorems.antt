@@ -21,7 +21,7 @@ use Rattle.row_rules.specs.declared.Change.{Change}
 use Rattle.row_rules.specs.declared.Change.TheVariants.{Nothing, To}
 use Rattle.row_rules.specs.declared.Flags.{Flags}
 use Rattle.row_rules.specs.declared.Row.{Row}
-use Rattle.row_rules.specs.Text.{digit, hex_digits, two_digits_lem, stage_text, flag_text, flags_text, number_text, register_text, value_text, mark_text, newline, row_text, row_size, row_at}
+use Rattle.row_rules.specs.Text.{digit, hex_digits, two_digits, stage_text, flag_text, flags_text, number_text, register_text, value_text, mark_text, newline, row_text, row_size, row_at}
 use Rattle.row_rules.proofs.Lengths.{two_long, stage_long, flags_long, number_long, value_long, mark_long}
 
 -- ---- the text
@@ -38,11 +38,11 @@ all_spaced = refl
 nested : (a b c d e f g h i j : List ℕ) → a ++ b ++ c ++ d ++ e ++ f ++ g ++ h ++ i ++ j ≡ a ++ (b ++ (c ++ (d ++ (e ++ (f ++ (g ++ (h ++ (i ++ j))))))))
 nested a b c d e f g h i j = simp append_assoc
 
-row_spaced : (r : Row) → row_text r ≡ two_digits_lem r.cycle ++ spaced (
+row_spaced : (r : Row) → row_text r ≡ two_digits r.cycle ++ spaced (
     stage_text r.fetch ∷ stage_text r.decode ∷ stage_text r.execute ∷ stage_text r.write
     ∷ flags_text r.flags ∷ number_text r.change ∷ value_text r.change ∷ mark_text r.change ∷ [])
 unfolding row_text spaced
-row_spaced r = nested (two_digits_lem r.cycle) _ _ _ _ _ _ _ _ _
+row_spaced r = nested (two_digits r.cycle) _ _ _ _ _ _ _ _ _
 
 -- the next field, of k bytes, and what stands behind it
 there : (a k : ℕ) (l q : List ℕ) (qs : List (List ℕ)) → length q ≡ k → drop a l ≡ spaced (q ∷ qs)
@@ -56,7 +56,7 @@ there a k l q qs n e =
 
 -- each field at its place
 pub row_places : (r : Row)
-    → (take 2 (row_text r) ≡ two_digits_lem r.cycle)
+    → (take 2 (row_text r) ≡ two_digits r.cycle)
     × (take 7 (drop 3 (row_text r)) ≡ stage_text r.fetch)
     × (take 7 (drop 11 (row_text r)) ≡ stage_text r.decode)
     × (take 7 (drop 19 (row_text r)) ≡ stage_text r.execute)
@@ -69,7 +69,7 @@ pub row_places : (r : Row)
 row_places r =
     let l = row_text r in
     let two = two_long r.cycle in
-    let f = there 2 7 l _ _ (stage_long r.fetch) (ap (drop 2) (row_spaced r) ∙ drop_at (two_digits_lem r.cycle) _ 2 two) in
+    let f = there 2 7 l _ _ (stage_long r.fetch) (ap (drop 2) (row_spaced r) ∙ drop_at (two_digits r.cycle) _ 2 two) in
     let d = there 10 7 l _ _ (stage_long r.decode) f.1 in
     let e = there 18 7 l _ _ (stage_long r.execute) d.1 in
     let w = there 26 7 l _ _ (stage_long r.write) e.1 in
@@ -77,7 +77,7 @@ row_places r =
     let n = there 38 2 l _ _ (number_long r.change) x.1 in
     let v = there 41 32 l _ _ (value_long r.change) n.1 in
     let m = there 74 2 l _ _ (mark_long r.change) v.1 in
-    (ap (take 2) (row_spaced r) ∙ take_at (two_digits_lem r.cycle) _ 2 two, f.0, d.0, e.0, w.0, x.0, n.0, v.0, m.0, m.1 ∙ all_spaced)
+    (ap (take 2) (row_spaced r) ∙ take_at (two_digits r.cycle) _ 2 two, f.0, d.0, e.0, w.0, x.0, n.0, v.0, m.0, m.1 ∙ all_spaced)
 
 -- "a row is 78 bytes"
 pub row_size_lem : (r : Row) → length (row_text r) ≡ row_size
@@ -126,8 +126,8 @@ same_hex (suc k) v w e =
     let others = same_hex k v w (ap (drop 1) e) in
     split v ∙ rw (top, others) (sym (split w))
 
-pub same_two : (m n : ℕ) → two_digits_lem m ≡ two_digits_lem n → m % 100 ≡ n % 100
-unfolding two_digits_lem
+pub same_two : (m n : ℕ) → two_digits m ≡ two_digits n → m % 100 ≡ n % 100
+unfolding two_digits
 same_two m n e =
     let tens = same_digit (m / 10 % 10) (n / 10 % 10) (omega arith) (omega arith) (ap (λ (l : List ℕ). get_or l 0 0) e) in
     let ones = same_digit (m % 10) (n % 10) (omega arith) (omega arith) (ap (λ (l : List ℕ). get_or l 1 0) e) in
@@ -212,7 +212,7 @@ pub row_sixty_seven : row_text (record {
     ∷ 55 ∷ 54 ∷ 53 ∷ 52 ∷ 51 ∷ 50 ∷ 49 ∷ 48 ∷ 70 ∷ 69 ∷ 68 ∷ 67 ∷ 66 ∷ 65 ∷ 57 ∷ 56
     ∷ 32 ∷ 65 ∷ 53
     ∷ 10 ∷ []
-unfolding two_digits_lem stage_text flags_text number_text register_text value_text mark_text row_text
+unfolding two_digits stage_text flags_text number_text register_text value_text mark_text row_text
 row_sixty_seven = refl
 
 -- two rows of the document's example, with their marks: where nothing is written, and li's, which is zero
@@ -234,7 +234,7 @@ pub row_three : row_text (record {
     ∷ 32 ∷ 48 ∷ 48 ∷ 48
     ∷ 32 ∷ 45 ∷ 45
     ∷ 32 ∷ (replicate 32 45 ++ (32 ∷ 45 ∷ 45 ∷ 10 ∷ []))
-unfolding two_digits_lem stage_text flags_text number_text register_text value_text mark_text row_text
+unfolding two_digits stage_text flags_text number_text register_text value_text mark_text row_text
 row_three = refl
 
 -- 04 ------- ------- 1810422 00000A1 110 01 00000000000000000000000000000005 00
@@ -255,7 +255,7 @@ pub row_four : row_text (record {
     ∷ 32 ∷ 49 ∷ 49 ∷ 48
     ∷ 32 ∷ 48 ∷ 49
     ∷ 32 ∷ (replicate 31 48 ++ (53 ∷ 32 ∷ 48 ∷ 48 ∷ 10 ∷ []))
-unfolding two_digits_lem stage_text flags_text number_text register_text value_text mark_text row_text
+unfolding two_digits stage_text flags_text number_text register_text value_text mark_text row_text
 row_four = refl
 
 -- ---- the text tells the mark

@@ -17,8 +17,8 @@ abbrev pub digit : ℕ → ℕ
 digit d = get_or (48 ∷ 49 ∷ 50 ∷ 51 ∷ 52 ∷ 53 ∷ 54 ∷ 55 ∷ 56 ∷ 57 ∷ 65 ∷ 66 ∷ 67 ∷ 68 ∷ 69 ∷ 70 ∷ []) d 0
 
 -- "two decimal digits", of any number its last two
-unfoldable pub two_digits_lem : ℕ → List ℕ
-two_digits_lem n = digit (n / 10 % 10) ∷ digit (n % 10) ∷ []
+unfoldable pub two_digits : ℕ → List ℕ
+two_digits n = digit (n / 10 % 10) ∷ digit (n % 10) ∷ []
 
 -- the last k hex digits of a number
 abbrev pub hex_digits : ℕ → ℕ → List ℕ
@@ -43,7 +43,7 @@ flags_text f = flag_text f.rs1 ∷ flag_text f.rs2 ∷ flag_text f.rs3 ∷ []
 -- "the register written (two decimal digits, or `--`)"
 unfoldable pub number_text : Change → List ℕ
 number_text Nothing = hyphens 2
-number_text (To p o) = two_digits_lem p.0
+number_text (To p o) = two_digits p.0
 
 -- "its new value (32 upper-case hex digits, or 32 hyphens)"; "Bit 127 is leftmost"
 unfoldable pub register_text : Register → List ℕ
@@ -67,7 +67,7 @@ newline = 10 ∷ []
 
 unfoldable pub row_text : Row → List ℕ
 row_text r =
-    two_digits_lem r.cycle
+    two_digits r.cycle
     ++ behind_space (stage_text r.fetch) ++ behind_space (stage_text r.decode)
     ++ behind_space (stage_text r.execute) ++ behind_space (stage_text r.write)
     ++ behind_space (flags_text r.flags)

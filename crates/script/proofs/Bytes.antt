@@ -10,7 +10,7 @@ use borrow.Author.Tests.{lt-ltb, le-ltb, eq-eqb, ne_eqb}
 use lib.Dec.{eqb}
 use lib.ListN.{length, get_or, drop, length-drop, drop_of_length-le}
 use lib.Seq.{drop-cons}
-use Rattle.text_rules.specs.Forms.{same_bytes_lem}
+use Rattle.text_rules.specs.Forms.{same_bytes}
 use Rattle.text_rules.specs.Front.{front_while}
 use Rattle.text_rules.proofs.Fronts.{front_fits, front_at_end, front_ended, front_more}
 use Rattle.script.specs.Words.{is_other, next_place}
@@ -60,7 +60,7 @@ module _ {byte : ℕ} {text : List ℕ} {at end : ℕ} (so_far : NextSoFar byte 
 -- ---- the same bytes
 
 -- of different lengths
-pub other_length : (a b : List ℕ) → (length a ≡ length b → ⊥) → false ≡ same_bytes_lem a b
+pub other_length : (a b : List ℕ) → (length a ≡ length b → ⊥) → false ≡ same_bytes a b
 other_length [] [] n = absurd (n refl)
 other_length [] (y ∷ b) n = refl
 other_length (x ∷ a) [] n = refl
@@ -74,23 +74,23 @@ from l {i} h = rw add-one (drop-cons l i 0 h)
 pub record SameSoFar (a b : List ℕ) (i : ℕ) : Type 0 where
   pub as_long : length a ≡ length b
   pub within : i ≤ length a
-  pub test_left : same_bytes_lem (drop i a) (drop i b) ≡ same_bytes_lem a b
+  pub test_left : same_bytes (drop i a) (drop i b) ≡ same_bytes a b
 
 module _ {a b : List ℕ} {i : ℕ} (so_far : SameSoFar a b i) where
   -- nothing is left
-  pub all_same : length a ≤ i → true ≡ same_bytes_lem a b
+  pub all_same : length a ≤ i → true ≡ same_bytes a b
   all_same h =
       let shorter : length b ≤ i = omega (arith, so_far.as_long) in
       rw (drop_of_length-le a h, drop_of_length-le b shorter) at so_far.test_left
 
   module _ (more : i < length a) where
-    apart : same_bytes_lem a b ≡ same_bytes_lem (get_or a i 0 ∷ drop (i + 1) a) (get_or b i 0 ∷ drop (i + 1) b)
+    apart : same_bytes a b ≡ same_bytes (get_or a i 0 ∷ drop (i + 1) a) (get_or b i 0 ∷ drop (i + 1) b)
     apart =
         let more-of-b : i < length b = omega (arith, so_far.as_long) in
-        sym so_far.test_left ∙ (λ j. same_bytes_lem (from a more j) (from b more-of-b j))
+        sym so_far.test_left ∙ (λ j. same_bytes (from a more j) (from b more-of-b j))
 
     -- two bytes differ
-    pub other_byte : (get_or a i 0 ≡ get_or b i 0 → ⊥) → false ≡ same_bytes_lem a b
+    pub other_byte : (get_or a i 0 ≡ get_or b i 0 → ⊥) → false ≡ same_bytes a b
     other_byte n = sym (apart ∙ simp (ne_eqb (get_or a i 0) (get_or b i 0) n))
 
     -- two bytes are the same

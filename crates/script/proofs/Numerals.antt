@@ -13,7 +13,7 @@ use lib.Seq.{drop-cons}
 use Rattle.text_rules.specs.Number.{digit_of, positional, number_of}
 use Rattle.text_rules.proofs.Positional.{at_least}
 use Rattle.script.specs.declared.Number.{Number}
-use Rattle.script.specs.Numbers.{all_digits_lem, unknown, said_in}
+use Rattle.script.specs.Numbers.{all_digits, unknown, said_in}
 
 -- ---- what digits say, by the tests
 
@@ -23,7 +23,7 @@ module _ (base : ℕ) (l : List ℕ) where
   unfolding said_in
   none_said e = simp (le-ltb 0 (length l) (omega arith))
 
-  not_digits : all_digits_lem base l ≡ false → said_in base l ≡ unknown
+  not_digits : all_digits base l ≡ false → said_in base l ≡ unknown
   unfolding said_in
   not_digits e = simp (e, and-false)
 
@@ -31,7 +31,7 @@ module _ (base : ℕ) (l : List ℕ) where
   unfolding said_in
   above_limit h = simp (le-ltb (number_of base l) (2 ^ 32) h, and-false)
 
-  pub said : 0 < length l → all_digits_lem base l ≡ true → number_of base l < 2 ^ 32 → said_in base l ≡ record { known = true; value = number_of base l }
+  pub said : 0 < length l → all_digits base l ≡ true → number_of base l < 2 ^ 32 → said_in base l ≡ record { known = true; value = number_of base l }
   unfolding said_in
   said some e h = simp (lt-ltb 0 (length l) some, e, lt-ltb (number_of base l) (2 ^ 32) h)
 
@@ -40,7 +40,7 @@ module _ (base : ℕ) (l : List ℕ) where
 pub record SaidSoFar (base : ℕ) (l : List ℕ) (value i : ℕ) : Type 0 where
   pub within : i ≤ length l
   pub small : value < 2 ^ 32
-  pub test_left : all_digits_lem base (drop i l) ≡ all_digits_lem base l
+  pub test_left : all_digits base (drop i l) ≡ all_digits base l
   pub value_left : positional base value (map digit_of (drop i l)) ≡ number_of base l
 
 -- before the first of them
@@ -54,7 +54,7 @@ module _ {base : ℕ} {l : List ℕ} {value i : ℕ} (so_far : SaidSoFar base l 
       let none : drop i l ≡ [] = drop_of_length-le l h in
       let value_is : value ≡ number_of base l = sym (ap (λ (m : List ℕ). positional base value (map digit_of m)) none) ∙ so_far.value_left in
       rw value_is
-      (sym (said base l (omega (arith, so_far.within)) (sym so_far.test_left ∙ ap (all_digits_lem base) none) (omega (arith, so_far.small))))
+      (sym (said base l (omega (arith, so_far.within)) (sym so_far.test_left ∙ ap (all_digits base) none) (omega (arith, so_far.small))))
 
   -- there is room for a digit more
   pub times_base : base ≤ 16 → base * value ≤ 16 * 2 ^ 32
@@ -64,8 +64,8 @@ module _ {base : ℕ} {l : List ℕ} {value i : ℕ} (so_far : SaidSoFar base l 
     apart : drop i l ≡ get_or l i 0 ∷ drop (i + 1) l
     apart = rw add-one (drop-cons l i 0 more)
 
-    tested : all_digits_lem base l ≡ all_digits_lem base (get_or l i 0 ∷ drop (i + 1) l)
-    tested = sym so_far.test_left ∙ ap (all_digits_lem base) apart
+    tested : all_digits base l ≡ all_digits base (get_or l i 0 ∷ drop (i + 1) l)
+    tested = sym so_far.test_left ∙ ap (all_digits base) apart
 
     -- a byte that is no digit of the base
     pub no_digit : base ≤ d → {r : Number} → r ≡ unknown → r ≡ said_in base l

@@ -10,15 +10,15 @@ use lib.ListN.{length, replicate}
 use Rattle.text_rules.specs.Number.{digit_of, number_of, no_leading_zero, digits_for}
 use Rattle.text_rules.specs.Number.Notation.{decimal}
 use Rattle.text_rules.proofs.Numerals.{AllDigits, Numeral, decimal_says}
-use Rattle.script.specs.Numbers.{all_digits_lem, said_in}
+use Rattle.script.specs.Numbers.{all_digits, said_in}
 use Rattle.script.proofs.Numerals.{said}
 
-all_digits_lem : (ds : List ℕ) → AllDigits 10 ds → all_digits_lem 10 ds ≡ true
+all_digits_lem : (ds : List ℕ) → AllDigits 10 ds → all_digits 10 ds ≡ true
 all_digits_lem [] h = refl
 all_digits_lem (d ∷ ds) h = rw h.0 (all_digits_lem ds h.1)
 
 -- zeros in front change nothing
-zeros_tested : (k : ℕ) (ds : List ℕ) → all_digits_lem 10 (replicate k 48 ++ ds) ≡ all_digits_lem 10 ds
+zeros_tested : (k : ℕ) (ds : List ℕ) → all_digits 10 (replicate k 48 ++ ds) ≡ all_digits 10 ds
 unfolding digit_of
 zeros_tested zero ds = refl
 zeros_tested (suc k) ds = zeros_tested k ds

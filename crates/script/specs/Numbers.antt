@@ -1,17 +1,17 @@
 -- Numbers in digits of a base, 10 or 16.
 -- Assumes nothing.
 use Rattle.std.specs.Prelude.{ℕ, ◌^◌, Bool, true, false, cond, ◌&&◌, List, [], ◌∷◌, ltb, length}
-use Rattle.text_rules.specs.Number.{is_digit_lem, number_of}
+use Rattle.text_rules.specs.Number.{is_digit, number_of}
 use Rattle.script.specs.declared.Number.{Number}
 
 -- whether all bytes are digits of a base
-abbrev pub all_digits_lem : ℕ → List ℕ → Bool
-all_digits_lem base [] = true
-all_digits_lem base (b ∷ l) = is_digit_lem base b && all_digits_lem base l
+abbrev pub all_digits : ℕ → List ℕ → Bool
+all_digits base [] = true
+all_digits base (b ∷ l) = is_digit base b && all_digits base l
 
 -- one or more digits, zeros in front or not
 abbrev pub is_number : ℕ → List ℕ → Bool
-is_number base l = ltb 0 (length l) && all_digits_lem base l
+is_number base l = ltb 0 (length l) && all_digits base l
 
 -- what is no number
 abbrev pub unknown : Number

@@ -68,16 +68,16 @@ module _ (index immediate rd : ℕ) (hi : index < 2 ^ 3) (hm : immediate < 2 ^ 1
 -- "Bits 24..23 = 10: multiply-add or subtract. Bit 22 long, bit 21 subtract, bit 20 high; then rs3 (19..15), rs2 (14..10), rs1 (9..5), rd (4..0)"
 module _ (long subtract high rs3 rs2 rs1 rd : ℕ) (hl : long < 2 ^ 1) (hs : subtract < 2 ^ 1) (hh : high < 2 ^ 1)
     (h3 : rs3 < 2 ^ 5) (h2 : rs2 < 2 ^ 5) (h1 : rs1 < 2 ^ 5) (hd : rd < 2 ^ 5) where
-  abbrev pub multiply_word_lem : List Field
-  multiply_word_lem = field 5 rd ∷ field 5 rs1 ∷ field 5 rs2 ∷ field 5 rs3 ∷ field 1 high ∷ field 1 subtract ∷ field 1 long ∷ field 2 2 ∷ []
+  abbrev pub multiply_word : List Field
+  multiply_word = field 5 rd ∷ field 5 rs1 ∷ field 5 rs2 ∷ field 5 rs3 ∷ field 1 high ∷ field 1 subtract ∷ field 1 long ∷ field 2 2 ∷ []
 
-  pub multiply_fields : (let w = together multiply_word_lem in
+  pub multiply_fields : (let w = together multiply_word in
       (is_li w ≡ false) × (is_multiply w ≡ true) × (is_long w ≡ eqb long 1) × (is_subtract w ≡ eqb subtract 1) × (is_high w ≡ eqb high 1)
       × ((rs3_of w).0 ≡ rs3) × ((rs2_of w).0 ≡ rs2) × ((rs1_of w).0 ≡ rs1) × ((rd_of w).0 ≡ rd))
   multiply_fields =
-      let w = together multiply_word_lem in
-      let at : (i : ℕ) → w / 2 ^ from i multiply_word_lem % 2 ^ (nth i multiply_word_lem).width ≡ (nth i multiply_word_lem).value
-      = λ i. field_at i multiply_word_lem (hd, (h1, (h2, (h3, (hh, (hs, (hl, (omega arith, tt)))))))) in (
+      let w = together multiply_word in
+      let at : (i : ℕ) → w / 2 ^ from i multiply_word % 2 ^ (nth i multiply_word).width ≡ (nth i multiply_word).value
+      = λ i. field_at i multiply_word (hd, (h1, (h2, (h3, (hh, (hs, (hl, (omega arith, tt)))))))) in (
         top_bit w 2 (at 7) (omega arith),
         eq-eqb (bits_of 24 23 w) 2 (at 7),
         ap (λ (x : ℕ). eqb x 1) (at 6),

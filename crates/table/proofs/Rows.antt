@@ -38,12 +38,12 @@ all_alike x (suc n) (suc i) = all_alike x n i
 
 module _ (w : ℕ) {l : Bool} (is-li : l ≡ is_li w) where
   module _ (yes : l ≡ true) where
-    pub li_word : operation_of w ≡ li
+    pub li_word_lem : operation_of w ≡ li
     unfolding operation_of
-    li_word = rw (sym is-li ∙ yes)
+    li_word_lem = rw (sym is-li ∙ yes)
 
     pub li_reads : Reads.Rd ≡ reads_of (operation_of w)
-    li_reads = sym (ap reads_of li_word)
+    li_reads = sym (ap reads_of li_word_lem)
 
   module _ {m : Bool} (other : l ≡ false) (is-multiply : m ≡ is_multiply w) where
     module _ (yes : m ≡ true) where
@@ -55,9 +55,9 @@ module _ (w : ℕ) {l : Bool} (is-li : l ≡ is_li w) where
       multiply_reads = sym (ap reads_of multiply_word_lem ∙ row_reads (is_long w) (is_subtract w) (is_high w))
 
     module _ (no : m ≡ false) where
-      pub short_word : operation_of w ≡ get_or short_rows (code_of w) nop
+      pub short_word_lem : operation_of w ≡ get_or short_rows (code_of w) nop
       unfolding operation_of
-      short_word = rw (sym is-li ∙ other, sym is-multiply ∙ no)
+      short_word_lem = rw (sym is-li ∙ other, sym is-multiply ∙ no)
 
       pub short_reads : {c : ℕ} {r : Reads} → c ≡ code_of w → r ≡ reads_of (get_or short_rows c nop) → r ≡ reads_of (operation_of w)
-      short_reads e f = f ∙ ap (λ (k : ℕ). reads_of (get_or short_rows k nop)) e ∙ sym (ap reads_of short_word)
+      short_reads e f = f ∙ ap (λ (k : ℕ). reads_of (get_or short_rows k nop)) e ∙ sym (ap reads_of short_word_lem)

@@ -14,7 +14,7 @@ use lib.ListN.{length, get_or, drop, drop_of_length-le, length-drop}
 use lib.Seq.{drop-cons, drop-drop}
 use Rattle.text_rules.specs.declared.Operands.{Operands}
 use Rattle.text_rules.specs.Forms.{Operand, form_at}
-use Rattle.text_rules.specs.Number.{Notation, base_of, is_digit_lem, digits_in, number_of, says_below}
+use Rattle.text_rules.specs.Number.{Notation, base_of, is_digit, digits_in, number_of, says_below}
 use Rattle.text_rules.specs.Line.{SPACE, begins_with, not_stated, operands_in}
 use Rattle.text_rules.proofs.Rows.{most, sound}
 use Rattle.text_rules.proofs.Fronts.{front_fits}
@@ -199,7 +199,7 @@ module _ {text : List ℕ} {start : ℕ} {table : List ℕ} {row at word cell : 
                 o = so_far.o + 1;
                 cell_of = omega (arith, so_far.cell_of);
                 few = omega (arith, there.inside);
-                within = omega (arith, read.size is_below, front_fits (is_digit_lem (row_base row)) (drop (at + 1) text), length-drop (at + 1) text, behind_space_lem);
+                within = omega (arith, read.size is_below, front_fits (is_digit (row_base row)) (drop (at + 1) text), length-drop (at + 1) text, behind_space_lem);
                 room = room_left;
                 same =
                     rw (value_is, size_is, cells.weight_is there on, ← drop-drop (1 + length (digits_at row text at)) at text, ← add_assoc at 1 (length (digits_at row text at)))

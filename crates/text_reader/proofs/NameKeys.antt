@@ -10,7 +10,7 @@ use borrow.Author.Tests.{leb-true, eq-eqb, ne_eqb}
 use lib.Dec.{ltb, leb, eqb}
 use lib.ListN.{length, take}
 use lib.Seq.{take_all, length-take-le}
-use Rattle.text_rules.specs.Forms.{Form, every_form, first_row, same_bytes_lem, row_named}
+use Rattle.text_rules.specs.Forms.{Form, every_form, first_row, same_bytes, row_named}
 use Rattle.text_rules.proofs.Positional.{AllBelow, every_below, same_length, below_power, above_power}
 use Rattle.text_rules.proofs.Rows.{both, every, same_bytes_lem, same_as_itself, sound}
 use Rattle.text_rules.proofs.Stated.{found}
@@ -44,14 +44,14 @@ module _ (name other : List ℕ) (short : length other ≤ 6) where
   cut : other ≡ take 7 name → name ≡ other
   cut e = sym (e ∙ take_all 7 name (at_most_lem _ _ (λ l. omega (arith, ap length e, length-take-le 7 name (omega arith)))))
 
-  by_seven : AllBelow 256 (take 7 name) → AllBelow 256 other → eqb (key_of other) (key_of (take 7 name)) ≡ same_bytes_lem name other
-  by_seven hn ho = go (same_bytes_lem name other) refl
+  by_seven : AllBelow 256 (take 7 name) → AllBelow 256 other → eqb (key_of other) (key_of (take 7 name)) ≡ same_bytes name other
+  by_seven hn ho = go (same_bytes name other) refl
     where
-      go : (t : Bool) → same_bytes_lem name other ≡ t → eqb (key_of other) (key_of (take 7 name)) ≡ t
+      go : (t : Bool) → same_bytes name other ≡ t → eqb (key_of other) (key_of (take 7 name)) ≡ t
       go true e = let same = same_bytes_lem name other e in eq-eqb _ _ (ap key_of (sym (whole same ∙ same)))
       go false e =
           ne_eqb _ _
-          (λ k. true≢false (sym (ap (same_bytes_lem name) (sym (cut (same_key other (take 7 name) ho hn k))) ∙ same_as_itself name) ∙ e))
+          (λ k. true≢false (sym (ap (same_bytes name) (sym (cut (same_key other (take 7 name) ho hn k))) ∙ same_as_itself name) ∙ e))
 
 -- ---- in the table
 
@@ -60,7 +60,7 @@ abbrev keyed : Form → Bool
 keyed f = leb (length f.name) 6 && every (λ b. ltb b 256) f.name
 
 same_row : (name : List ℕ) → AllBelow 256 (take 7 name) → (fs : List Form) → every keyed fs ≡ true
-    → first_row (λ (f : Form). eqb (key_of f.name) (key_of (take 7 name))) fs ≡ first_row (λ (f : Form). same_bytes_lem name f.name) fs
+    → first_row (λ (f : Form). eqb (key_of f.name) (key_of (take 7 name))) fs ≡ first_row (λ (f : Form). same_bytes name f.name) fs
 unfolding first_row
 same_row name h [] e = refl
 same_row name h (f ∷ fs) e =

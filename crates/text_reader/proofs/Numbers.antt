@@ -13,7 +13,7 @@ use lib.ListN.{length, get_or, drop}
 use lib.Seq.{get_or-drop}
 use Rattle.table.proofs.Decided.{denied, not_denied}
 use Rattle.text_rules.specs.Front.{front_while}
-use Rattle.text_rules.specs.Number.{Notation, base_of, digit_of, is_digit_lem, digits_in, positional, number_of, no_leading_zero, is_numeral, says_below}
+use Rattle.text_rules.specs.Number.{Notation, base_of, digit_of, is_digit, digits_in, positional, number_of, no_leading_zero, is_numeral, says_below}
 use Rattle.text_rules.specs.Number.Notation.{decimal, seven_hex}
 use Rattle.text_rules.proofs.Fronts.{front_ended, front_more}
 use Rattle.text_rules.proofs.Positional.{at_least}
@@ -71,7 +71,7 @@ first_of false b l h = absurd (omega arith)
 first_digit : (base : ℕ) (l : List ℕ) → 0 < length (digits_in base l) → get_or (digits_in base l) 0 0 ≡ get_or l 0 0
 unfolding front_while
 first_digit base [] h = refl
-first_digit base (b ∷ l) h = first_of (is_digit_lem base b) b (digits_in base l) h
+first_digit base (b ∷ l) h = first_of (is_digit base b) b (digits_in base l) h
 
 -- whether the digits from a place to their end are one, by the tests of the code
 module _ (text : List ℕ) (at end base : ℕ) (size : end - at ≡ length (digits_in base (drop at text))) where
@@ -147,7 +147,7 @@ module _ {base : ℕ} {text : List ℕ} {at value end : ℕ} (so_far : NumberSoF
   module _ (more : end < length text) {d : ℕ} (digit-is : d ≡ digit_of (get_or text end 0)) where
     pub number_more : d < base → NumberSoFar base text at (base * value + d) (end + 1)
     number_more h =
-        let left = front_more (is_digit_lem base) text end more (ap (λ (n : ℕ). ltb n base) (sym digit-is) ∙ lt-ltb d base h) in
+        let left = front_more (is_digit base) text end more (ap (λ (n : ℕ). ltb n base) (sym digit-is) ∙ lt-ltb d base h) in
         record {
           value_of = rw digit-is (sym (ap (λ (ds : List ℕ). positional base value (map digit_of ds)) left) ∙ so_far.value_of);
           size_of = omega (arith, so_far.size_of, ap length left);
@@ -155,7 +155,7 @@ module _ {base : ℕ} {text : List ℕ} {at value end : ℕ} (so_far : NumberSoF
 
     -- a byte that is no digit
     pub number_ended : base ≤ d → digits_in base (drop end text) ≡ []
-    number_ended h = front_ended (is_digit_lem base) text end more (ap (λ (n : ℕ). ltb n base) (sym digit-is) ∙ le-ltb d base h)
+    number_ended h = front_ended (is_digit base) text end more (ap (λ (n : ℕ). ltb n base) (sym digit-is) ∙ le-ltb d base h)
 
   -- where no digit is left, all are read
   pub all_read : digits_in base (drop end text) ≡ [] → DigitsRead base (drop at text) value (end - at)

@@ -7,7 +7,7 @@ use contract.Lifetimes.{Lfts}
 use borrow.Fn.Kinds.{Dens, ended_of}
 use denote.Triple.Clauses.{Lasts, at_exit}
 use lib.ListN.{length, take}
-use Rattle.buffer.specs.Front.{in_front}
+use Rattle.buffer.specs.Front.{at_front}
 use Rattle.job_rules.specs.declared.Written.{Written}
 use Rattle.job_rules.specs.Write.{written_of}
 use Rattle.text_rules.specs.declared.ReadText.{ReadText}
@@ -82,15 +82,15 @@ no_two_programs l m e f same = sym (words_listed l e) ∙ ap (λ (t : List ℕ).
 
 -- the words of a text that is their listing, listed where there is room
 again : (r : Reading) (m : Listing) → text r ≡ listing_of (words_read (read_text_of (text r))) → words m ≡ words_read r.answer → length (text r) ≤ length (before m)
-    → (m.answer ≡ written_of 0 0 (length (text r))) × (after m ≡ in_front (text r) (before m))
+    → (m.answer ≡ written_of 0 0 (length (text r))) × (after m ≡ at_front (text r) (before m))
 again r m own same room =
-    let both : ◌≡◌ {A = Written × List ℕ} (m.answer, after m) (written_of 0 0 (length (text r)), in_front (text r) (before m))
+    let both : ◌≡◌ {A = Written × List ℕ} (m.answer, after m) (written_of 0 0 (length (text r)), at_front (text r) (before m))
     = list_is m ∙ ap (λ (ws : List ℕ). list_of ws (before m)) (same ∙ ap words_read (read_is r)) ∙ rules.listed_read (text r) (before m) own room in
     (ap (λ (x : Written × List ℕ). x.0) both, ap (λ (x : Written × List ℕ). x.1) both)
 
 -- "listing what was read from a listing gives the same bytes", and leaves those beyond them.
 pub listing_again : (l : Listing) (r : Reading) (m : Listing) → l.answer.refusal ≡ 0 → text r ≡ listed l → words m ≡ words_read r.answer
-    → length (text r) ≤ length (before m) → (m.answer ≡ written_of 0 0 (length (text r))) × (after m ≡ in_front (text r) (before m))
+    → length (text r) ≤ length (before m) → (m.answer ≡ written_of 0 0 (length (text r))) × (after m ≡ at_front (text r) (before m))
 listing_again l r m e same words_same room =
     let is = rules.listed_there (words l) (before l) (accepted l e) in
     let own : text r ≡ listing_of (words l) = same ∙ ap (λ (x : Written × List ℕ). take x.0.size x.1) (list_is l) ∙ is.front in
@@ -98,6 +98,6 @@ listing_again l r m e same words_same room =
 
 -- Reading a text that has no `.word` line and listing its words gives the same bytes, and leaves those beyond them.
 pub listed_read : (r : Reading) (m : Listing) → r.answer.refusal ≡ 0 → NoWordLine (text r) → words m ≡ words_read r.answer → length (text r) ≤ length (before m)
-    → (m.answer ≡ written_of 0 0 (length (text r))) × (after m ≡ in_front (text r) (before m))
+    → (m.answer ≡ written_of 0 0 (length (text r))) × (after m ≡ at_front (text r) (before m))
 listed_read r m e none same room =
     again r m (its_own_listing (text r) (sym (ap (λ (x : ReadText). x.refusal) (read_is r)) ∙ e) none) same room

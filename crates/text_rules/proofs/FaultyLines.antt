@@ -13,7 +13,7 @@ use Rattle.text_rules.specs.declared.Line.{Line}
 use Rattle.text_rules.specs.declared.ReadText.{ReadText}
 use Rattle.text_rules.specs.Forms.{Form, form_at, row_named}
 use Rattle.text_rules.specs.Front.{front_while}
-use Rattle.text_rules.specs.Number.{Notation, base_of, digit_of, is_digit_lem, digits_for}
+use Rattle.text_rules.specs.Number.{Notation, base_of, digit_of, is_digit, digits_for}
 use Rattle.text_rules.specs.Line.{NEWLINE, in_name, name_in, refused_line, line_of}
 use Rattle.text_rules.specs.Text.{refused_text, read_from, read_text_of}
 use Rattle.text_rules.specs.Number.Notation.{decimal, seven_hex}
@@ -34,10 +34,10 @@ NoNewline l = All (λ (b : ℕ). b ≡ NEWLINE → ⊥) l
 no_name : (b : ℕ) → in_name b ≡ true → b ≡ NEWLINE → ⊥
 no_name b e z = false≢true (ap in_name (sym z) ∙ e)
 
-no_digit : (notation : Notation) (b : ℕ) → is_digit_lem (base_of notation) b ≡ true → b ≡ NEWLINE → ⊥
+no_digit : (notation : Notation) (b : ℕ) → is_digit (base_of notation) b ≡ true → b ≡ NEWLINE → ⊥
 unfolding digit_of
-no_digit decimal b e z = false≢true (ap (is_digit_lem 10) (sym z) ∙ e)
-no_digit seven_hex b e z = false≢true (ap (is_digit_lem 16) (sym z) ∙ e)
+no_digit decimal b e z = false≢true (ap (is_digit 10) (sym z) ∙ e)
+no_digit seven_hex b e z = false≢true (ap (is_digit 16) (sym z) ∙ e)
 
 none_in_numbers : (notation : Notation) (vs : List ℕ) → NoNewline (numbers_text notation vs)
 unfolding flat_map

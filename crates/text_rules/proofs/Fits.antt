@@ -11,7 +11,7 @@ use Rattle.table.proofs.Decided.{none_refused, passes, ends}
 use Rattle.text_rules.specs.declared.Operands.{Operands}
 use Rattle.text_rules.specs.declared.Line.{Line}
 use Rattle.text_rules.specs.Forms.{Operand, form_at, row_named}
-use Rattle.text_rules.specs.Number.{Notation, base_of, is_digit_lem, digits_in, number_of, says_below}
+use Rattle.text_rules.specs.Number.{Notation, base_of, is_digit, digits_in, number_of, says_below}
 use Rattle.text_rules.specs.Line.{SPACE, NEWLINE, begins_with, in_name, name_in, not_stated, operands_in, behind_name, accepted_line, line_of}
 use Rattle.text_rules.proofs.Fronts.{front_fits}
 use Rattle.text_rules.proofs.Rows.{both}
@@ -65,7 +65,7 @@ operands_fit notation (o ∷ os) word size l e =
     let rest = operands_fit notation os (word + number_of base digits * 2 ^ o.place) (size + 1 + length digits) (drop (1 + length digits) l)
     (sym (ap (λ (o : Operands). o.stated) s.others) ∙ e) in
     let end = ap (λ (o : Operands). o.size) s.others in
-    (omega (arith, rest.0, end), omega (arith, rest.1, end, front_fits (is_digit_lem base) (drop 1 l), length-drop (1 + length digits) l))
+    (omega (arith, rest.0, end), omega (arith, rest.1, end, front_fits (is_digit base) (drop 1 l), length-drop (1 + length digits) l))
 
 -- ---- a line that is accepted
 

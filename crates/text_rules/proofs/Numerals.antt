@@ -15,7 +15,7 @@ use lib.ListN.{length, take, drop, length-map, length-drop, take-append-drop}
 use lib.Seq.{length-take-le}
 use Rattle.row_rules.specs.Text.{digit, hex_digits}
 use Rattle.row_rules.proofs.Theorems.{decimal_code, letter_code}
-use Rattle.text_rules.specs.Number.{digit_of, is_digit_lem, positional, number_of, Notation, base_of, no_leading_zero, is_numeral, decimal_in, digits_for}
+use Rattle.text_rules.specs.Number.{digit_of, is_digit, positional, number_of, Notation, base_of, no_leading_zero, is_numeral, decimal_in, digits_for}
 use Rattle.text_rules.specs.Number.Notation.{decimal, seven_hex}
 use Rattle.text_rules.proofs.Fronts.{All, all_append, all_parts}
 use Rattle.text_rules.proofs.Rows.{both, agree}
@@ -34,7 +34,7 @@ by_kind P b is-decimal is-letter none = go (leb 48 b && leb b 57) (leb 65 b && l
     go false false e f = none
 
 -- a decimal digit has a code from 48 to 57, and says how far behind 48 it is
-pub decimal_bounds : (b : ℕ) → is_digit_lem 10 b ≡ true → (48 ≤ b) × (b ≤ 57) × (digit_of b ≡ b - 48)
+pub decimal_bounds : (b : ℕ) → is_digit 10 b ≡ true → (48 ≤ b) × (b ≤ 57) × (digit_of b ≡ b - 48)
 decimal_bounds b e =
     by_kind (λ (d : ℕ). d < 10 → (48 ≤ b) × (b ≤ 57) × (d ≡ b - 48)) b (λ l u h. (l, u, refl)) (λ l u h. absurd (omega arith)) (λ h. absurd (omega arith))
     (ltb-true (digit_of b) 10 e)
@@ -60,9 +60,9 @@ code_said d h = ap digit_of (omega (arith, decimal_code d h)) ∙ digit_said d (
 
 -- each byte is a digit
 abbrev pub AllDigits : ℕ → List ℕ → Type 0
-AllDigits base l = All (λ (b : ℕ). is_digit_lem base b ≡ true) l
+AllDigits base l = All (λ (b : ℕ). is_digit base b ≡ true) l
 
-is_digit_lem : (base b d : ℕ) → digit_of b ≡ d → d < base → is_digit_lem base b ≡ true
+is_digit_lem : (base b d : ℕ) → digit_of b ≡ d → d < base → is_digit base b ≡ true
 is_digit_lem base b d e h = rw e (lt-ltb d base h)
 
 values_below : (base : ℕ) (ds : List ℕ) → AllDigits base ds → AllBelow base (map digit_of ds)

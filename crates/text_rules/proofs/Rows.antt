@@ -11,7 +11,7 @@ use lib.Dec.{ltb, leb, eqb, lit≤}
 use lib.ListN.{length, get_or}
 use Rattle.text_rules.specs.Number.{Notation, decimal_in, digits_for}
 use Rattle.text_rules.specs.Number.Notation.{decimal, seven_hex}
-use Rattle.text_rules.specs.Forms.{Operand, Form, every_form, first_row, form_at, same_bytes_lem, row_named}
+use Rattle.text_rules.specs.Forms.{Operand, Form, every_form, first_row, form_at, same_bytes, row_named}
 use Rattle.text_rules.specs.Line.{in_name}
 use Rattle.text_rules.proofs.Fronts.{All}
 
@@ -74,15 +74,15 @@ first_is test (f ∷ fs) d (suc row) h e earlier =
 
 -- ---- names
 
-pub same_bytes_lem : (x y : List ℕ) → same_bytes_lem x y ≡ true → x ≡ y
+pub same_bytes_lem : (x y : List ℕ) → same_bytes x y ≡ true → x ≡ y
 same_bytes_lem [] [] e = refl
 same_bytes_lem [] (b ∷ y) e = absurd (true≢false (sym e))
 same_bytes_lem (a ∷ x) [] e = absurd (true≢false (sym e))
 same_bytes_lem (a ∷ x) (b ∷ y) e =
-    let s = both (eqb a b) (same_bytes_lem x y) e in
+    let s = both (eqb a b) (same_bytes x y) e in
     λ i. eqb-true a b s.0 i ∷ same_bytes_lem x y s.1 i
 
-pub same_as_itself : (x : List ℕ) → same_bytes_lem x x ≡ true
+pub same_as_itself : (x : List ℕ) → same_bytes x x ≡ true
 same_as_itself [] = refl
 same_as_itself (a ∷ x) = rw (eq-eqb a a refl) (same_as_itself x)
 

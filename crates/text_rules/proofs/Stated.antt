@@ -15,9 +15,9 @@ use Rattle.table.specs.Refusal.{NAME, OPERANDS}
 use Rattle.table.proofs.Decided.{passes, ends, not_denied}
 use Rattle.text_rules.specs.declared.Operands.{Operands}
 use Rattle.text_rules.specs.declared.Line.{Line}
-use Rattle.text_rules.specs.Forms.{Operand, Form, every_form, form_at, same_bytes_lem, row_named}
+use Rattle.text_rules.specs.Forms.{Operand, Form, every_form, form_at, same_bytes, row_named}
 use Rattle.text_rules.specs.Front.{front_while}
-use Rattle.text_rules.specs.Number.{Notation, base_of, digit_of, is_digit_lem, digits_in, number_of, is_numeral, digits_for, says_below}
+use Rattle.text_rules.specs.Number.{Notation, base_of, digit_of, is_digit, digits_in, number_of, is_numeral, digits_for, says_below}
 use Rattle.text_rules.specs.Line.{SPACE, NEWLINE, in_name, name_in, operands_in, behind_name, accepted_line, refused_line, line_of}
 use Rattle.text_rules.specs.Number.Notation.{decimal, seven_hex}
 use Rattle.text_rules.specs.Listing.{put, numbers_text, line_text}
@@ -31,7 +31,7 @@ use Rattle.text_rules.proofs.Rows.{both, every, every_all, has_limit, limit_smal
 
 -- a row that is found has that name
 pub found : (name : List ℕ) → row_named name < 26 → (form_at (row_named name)).name ≡ name
-found name h = sym (same_bytes_lem name _ (first_passes (λ (f : Form). same_bytes_lem name f.name) every_form (form_at 26) h))
+found name h = sym (same_bytes_lem name _ (first_passes (λ (f : Form). same_bytes name f.name) every_form (form_at 26) h))
 
 -- ---- the numbers
 
@@ -56,7 +56,7 @@ next_number notation o os word size v more h small none =
     let ds : List ℕ = digits_for notation v in
     let n = digits_say notation v small in
     let digits : digits_in (base_of notation) (ds ++ more) ≡ ds
-    = front_then (is_digit_lem (base_of notation)) ds more n.digits ∙ ap (λ (l : List ℕ). ds ++ l) none ∙ append-nil ds in
+    = front_then (is_digit (base_of notation)) ds more n.digits ∙ ap (λ (l : List ℕ). ds ++ l) none ∙ append-nil ds in
     let behind : drop (1 + length ds) (SPACE ∷ ds ++ more) ≡ more = drop_at (SPACE ∷ ds) more (1 + length ds) (omega arith) in
     rw (digits, written_below notation o.limit v h small, n.says, behind)
 
@@ -109,9 +109,9 @@ numbers_written notation (o ∷ os) word size l f e =
     let r = numbers_written notation os (word + v * 2 ^ o.place) (size + 1 + length digits) behind limited.1
     (sym (ap (λ (x : Operands). x.stated) s.others) ∙ e) in
     let front : digits ++ behind ≡ drop 1 l
-    = ap (λ (m : List ℕ). digits ++ m) (sym (drop-drop (length digits) 1 l)) ∙ front_stands (is_digit_lem base) (drop 1 l) in
+    = ap (λ (m : List ℕ). digits ++ m) (sym (drop-drop (length digits) 1 l)) ∙ front_stands (is_digit base) (drop 1 l) in
     let same : digits_for notation v ≡ digits
-    = digits_of notation digits (front_passes (is_digit_lem base) (drop 1 l)) two.0 (omega (arith, limited.0)) in
+    = digits_of notation digits (front_passes (is_digit base) (drop 1 l)) two.0 (omega (arith, limited.0)) in
     record {
       numbers = v ∷ r.numbers;
       rest = r.rest;

@@ -10,7 +10,7 @@ use borrow.Author.Tests.{ltb-true, ltb-false, le-ltb}
 use lib.Dec.{eqb}
 use lib.ListN.{length, get_or, take}
 use lib.Seq.{take-append_seam}
-use Rattle.buffer.specs.Front.{in_front}
+use Rattle.buffer.specs.Front.{at_front}
 use Rattle.table.specs.Decided.{decided}
 use Rattle.table.specs.Operation.{operation_of}
 use Rattle.table.specs.Operation.Operation.{nop}
@@ -61,7 +61,7 @@ listable words room e =
 
 -- Every program is listed wherever there is room for its listing: its size is the answer, and the listing stands at the buffer's front, the rest kept.
 pub program_listed : (words out : List ℕ) → Program words → length (listing_of words) ≤ length out
-    → list_of words out ≡ (written_of 0 0 (length (listing_of words)), in_front (listing_of words) out)
+    → list_of words out ≡ (written_of 0 0 (length (listing_of words)), at_front (listing_of words) out)
 unfolding list_of listed_or_refusal
 program_listed words out p room =
     let size = length (listing_of words) in
@@ -98,11 +98,11 @@ words_program text = record { few = omega (arith, few_words text, words_count te
 
 -- Listing what was read from a text that is its words' listing gives the same bytes, and leaves those beyond them.
 pub listed_read : (text out : List ℕ) → text ≡ listing_of (words_read (read_text_of text)) → length text ≤ length out
-    → list_of (words_read (read_text_of text)) out ≡ (written_of 0 0 (length text), in_front text out)
+    → list_of (words_read (read_text_of text)) out ≡ (written_of 0 0 (length text), at_front text out)
 listed_read text out is room =
     let words = words_read (read_text_of text) in
     program_listed words out (words_program text) (omega (arith, ap length is))
-    ∙ ap (λ (l : List ℕ). (written_of 0 0 (length l), in_front l out)) (sym is)
+    ∙ ap (λ (l : List ℕ). (written_of 0 0 (length l), at_front l out)) (sym is)
 
 -- a job file is listed by what is read of it
 abbrev listed_by : List ℕ → ReadJob → Written × List ℕ

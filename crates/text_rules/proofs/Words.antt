@@ -16,9 +16,9 @@ use lib.Pow.{pow-add}
 use Rattle.table.specs.Fields.{bits_of, rd_of, rs1_of, rs2_of, rs3_of, index_of, immediate_of, constant_of}
 use Rattle.table.specs.Operation.{Operation, multiply_row, short_rows, operation_of, reads_of, takes_first, takes_second, takes_third}
 use Rattle.table.specs.Operation.Operation.{li, simal, simah, simsl, simsh, slmal, slmah, slmsl, slmsh, nop}
-use Rattle.table.proofs.Rows.{li_word, multiply_word_lem, short_word}
+use Rattle.table.proofs.Rows.{li_word_lem, multiply_word_lem, short_word_lem}
 use Rattle.table.proofs.Theorems.{nop?}
-use Rattle.table.proofs.Assembled.{together, li_word, li_fields, multiply_word_lem, multiply_fields, short_word, short_fields}
+use Rattle.table.proofs.Assembled.{together, li_word, li_fields, multiply_word, multiply_fields, short_word, short_fields}
 use Rattle.text_rules.specs.Forms.{Operand, rd, index, immediate, rs1, rs2, rs3, form_at}
 use Rattle.text_rules.specs.Listing.{put}
 use Rattle.text_rules.proofs.Written.{Below, word_of}
@@ -37,7 +37,7 @@ pub li_words : (d i m : ℕ) → d < 32 → i < 8 → m < 65536 → IsLi (word_o
 li_words d i m hd hi hm =
     let e : together (li_word i m d hi hm hd) ≡ word_of 0 (d ∷ i ∷ m ∷ []) = omega arith in
     let f = li_fields i m d hi hm hd in
-    subst (λ (w : ℕ). IsLi w d i m) e (record { operation = li_word _ refl f.0; in_rd = f.3; in_index = f.1; in_immediate = f.2 })
+    subst (λ (w : ℕ). IsLi w d i m) e (record { operation = li_word_lem _ refl f.0; in_rd = f.3; in_index = f.1; in_immediate = f.2 })
 
 -- ---- the multiply family
 
@@ -66,7 +66,7 @@ module _ (long subtract high d s1 s2 s3 : ℕ) (hl : long < 2) (hs : subtract < 
       let k = 4 * long + 2 * subtract + high in
       let vs = d ∷ s1 ∷ s2 ∷ s3 ∷ [] in
       let small : k < 8 = omega arith in
-      let e : together (multiply_word_lem long subtract high s3 s2 s1 d hl hs hh h3 h2 h1 hd) ≡ put (0x1000000 + k * 0x100000) four vs = omega arith in
+      let e : together (multiply_word long subtract high s3 s2 s1 d hl hs hh h3 h2 h1 hd) ≡ put (0x1000000 + k * 0x100000) four vs = omega arith in
       let f = multiply_fields long subtract high s3 s2 s1 d hl hs hh h3 h2 h1 hd in
       subst (λ (w : ℕ). IsMultiply w long subtract high d s1 s2 s3) (e ∙ sym (λ i. put (multiply_base k small i) (multiply_operands k small i) vs)) (record {
         operation = multiply_word_lem _ refl f.0 refl f.1 ∙ (λ i. multiply_row (f.2 i) (f.3 i) (f.4 i));
@@ -156,7 +156,7 @@ assembled_short code d s1 s2 hc hd h1 h2 =
     let e : together (short_word 0 code s2 s1 d (omega arith) hc h2 h1 hd) ≡ 0x1800000 + code * 0x8000 + packed (d ∷ s1 ∷ s2 ∷ []) * 2 ^ 0 = omega arith in
     let f = short_fields 0 code s2 s1 d (omega arith) hc h2 h1 hd in
     subst (λ (w : ℕ). IsShort w code d s1 s2) e (record {
-      operation = short_word _ refl f.0 refl f.1 ∙ ap (λ (k : ℕ). get_or short_rows k nop) f.2;
+      operation = short_word_lem _ refl f.0 refl f.1 ∙ ap (λ (k : ℕ). get_or short_rows k nop) f.2;
       in_rd = f.6;
       in_rs1 = f.5;
       in_rs2 = f.3;

@@ -106,12 +106,12 @@ abbrev pub form_at : ℕ → Form
 form_at row = get_or every_form row (form [] 0 [])
 
 -- whether two texts have the same bytes
-abbrev pub same_bytes_lem : List ℕ → List ℕ → Bool
-same_bytes_lem [] [] = true
-same_bytes_lem [] (y ∷ ys) = false
-same_bytes_lem (x ∷ xs) [] = false
-same_bytes_lem (x ∷ xs) (y ∷ ys) = eqb x y && same_bytes_lem xs ys
+abbrev pub same_bytes : List ℕ → List ℕ → Bool
+same_bytes [] [] = true
+same_bytes [] (y ∷ ys) = false
+same_bytes (x ∷ xs) [] = false
+same_bytes (x ∷ xs) (y ∷ ys) = eqb x y && same_bytes xs ys
 
 -- the row that has this name
 abbrev pub row_named : List ℕ → ℕ
-row_named name = first_row (λ (f : Form). same_bytes_lem name f.name) every_form
+row_named name = first_row (λ (f : Form). same_bytes name f.name) every_form

@@ -2,7 +2,7 @@
 -- Assumes nothing.
 use Rattle.std.specs.Prelude.{ℕ, ◌+◌, ◌*◌, ◌/◌, ◌%◌, ◌^◌, Bool, cond, not, ltb, eqb, length}
 use mathlib.Core.List.{List, [], ◌∷◌, ◌++◌, map, flat_map}
-use Rattle.buffer.specs.Front.{in_front}
+use Rattle.buffer.specs.Front.{at_front}
 use Rattle.table.specs.Decided.{decided}
 use Rattle.table.specs.Refusal.{COUNT, WORD, ROOM, first_bad}
 use Rattle.job_rules.specs.declared.ReadJob.{ReadJob}
@@ -78,7 +78,7 @@ listed_or_refusal words room =
 unfoldable pub list_of : List ℕ → List ℕ → Written × List ℕ
 list_of words out =
     let answer : Written = listed_or_refusal words (length out) in
-    (answer, cond (eqb answer.refusal 0) (in_front (listing_of words) out) out)
+    (answer, cond (eqb answer.refusal 0) (at_front (listing_of words) out) out)
 
 -- the same of a job file's program: a file that is refused is answered with its number and 6's place, "with the buffer unaltered"
 unfoldable pub list_job_of : List ℕ → List ℕ → Written × List ℕ

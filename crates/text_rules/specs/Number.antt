@@ -18,12 +18,12 @@ unfoldable pub digit_of : ℕ → ℕ
 digit_of b = cond (is_decimal b) (b - 48) (cond (is_letter b) (b - 55) 16)
 
 -- whether it is a digit of a base, 10 or 16
-abbrev pub is_digit_lem : ℕ → ℕ → Bool
-is_digit_lem base b = ltb (digit_of b) base
+abbrev pub is_digit : ℕ → ℕ → Bool
+is_digit base b = ltb (digit_of b) base
 
 -- all digits at the front of a text
 abbrev pub digits_in : ℕ → List ℕ → List ℕ
-digits_in base l = front_while (is_digit_lem base) l
+digits_in base l = front_while (is_digit base) l
 
 -- what digits of a base say, behind digits that say `before`
 abbrev pub positional : ℕ → ℕ → List ℕ → ℕ

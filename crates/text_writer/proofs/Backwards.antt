@@ -6,7 +6,7 @@ use mathlib.Core.List.{List, [], ◌∷◌, ◌++◌}
 use native.Mathlib.Omega.{arith}
 use lib.ListN.{length, get_or, take, drop, set, length-append, take-append-drop, drop_of_length-le}
 use lib.Seq.{get_or_at, get_or-take, drop-cons, length-take-le}
-use Rattle.buffer.specs.Front.{in_front, from_start}
+use Rattle.buffer.specs.Front.{at_front, from_start}
 use Rattle.row.proofs.Stores.{stored_before}
 
 -- before the first byte is written
@@ -14,7 +14,7 @@ pub none_written : (s old : List ℕ) (i : ℕ) → length s ≡ i → old ≡ f
 none_written s old i n = rw (drop_of_length-le s {i = i} (omega arith)) (sym (take-append-drop i old))
 
 -- all of it
-pub all_written : (s old out : List ℕ) (i : ℕ) → i ≤ 0 → out ≡ from_start i (drop i s) old → out ≡ in_front s old
+pub all_written : (s old out : List ℕ) (i : ℕ) → i ≤ 0 → out ≡ from_start i (drop i s) old → out ≡ at_front s old
 all_written s old out i h e = let none : i ≡ 0 = omega arith in e ∙ rw none
 
 module _ (s : List ℕ) (i : ℕ) (some : 0 < i) (within : i ≤ length s) (front : List ℕ) (b : ℕ) (last : take i s ≡ front ++ b ∷ []) where

@@ -7,7 +7,7 @@ use native.Mathlib.Omega.{arith}
 use borrow.Author.Tests.{eq-eqb, ne_eqb}
 use lib.ListN.{length, get_or, take, drop, length-append}
 use lib.Seq.{take_at}
-use Rattle.buffer.specs.Front.{in_front}
+use Rattle.buffer.specs.Front.{at_front}
 use Rattle.buffer.proofs.Parts.{all_fit}
 use Rattle.table.specs.Refusal.{COUNT, WORD, ROOM, first_bad}
 use Rattle.table.proofs.Decided.{deciding}
@@ -46,7 +46,7 @@ module _ (words out : List ℕ) {answer : Written} (asked : answer ≡ listed_or
   unfolding list_of
   not_listed h = rw (← asked, ne_eqb _ _ h)
 
-  listed : {new : List ℕ} → answer.refusal ≡ 0 → new ≡ in_front (listing_of words) out → (answer, new) ≡ list_of words out
+  listed : {new : List ℕ} → answer.refusal ≡ 0 → new ≡ at_front (listing_of words) out → (answer, new) ≡ list_of words out
   unfolding list_of
   listed h e = rw (← asked, eq-eqb _ _ h, e)
 
@@ -83,14 +83,14 @@ module _ (words out : List ℕ) where
           refuses ROOM 0 (λ z. omega arith) e (search deciding depth 12)
 
       -- it fits, and its bytes are copied from the front of the text
-      pub copied : {new : List ℕ} → size ≤ length out → new ≡ in_front (take (length out) (take size text)) out → (written_of 0 0 size, new) ≡ list_of words out
+      pub copied : {new : List ℕ} → size ≤ length out → new ≡ at_front (take (length out) (take size text)) out → (written_of 0 0 size, new) ≡ list_of words out
       unfolding listed_or_refusal
       copied fits e =
           let h = good in
           let room : length (listing_of words) ≤ length out = omega (arith, whole.sized) in
           let taken : take size text ≡ listing_of words = ap (take size) whole.stands ∙ take_at (listing_of words) _ size (sym whole.sized) in
           listed words out (rw whole.sized (search deciding depth 12)) refl
-          (e ∙ ap (λ (l : List ℕ). in_front (take (length out) l) out) taken ∙ all_fit (listing_of words) out room)
+          (e ∙ ap (λ (l : List ℕ). at_front (take (length out) l) out) taken ∙ all_fit (listing_of words) out room)
 
 -- the bytes of a text that was put are within the buffer
 pub put_within : {p old text : List ℕ} {size : ℕ} → Put p size old text → size ≤ length text

@@ -1,10 +1,10 @@
 -- What the proofs of the crate bring in beside what crate unit_rules passes on: buffers, rows, and the definitions of the text.
 -- Assumes nothing.
 pub use borrow.Rule.Slice.PartMut.{mid_of, put_mid}
-pub use Rattle.buffer.specs.Front.{in_front, from_start}
+pub use Rattle.buffer.specs.Front.{at_front, from_start}
 pub use Rattle.buffer.proofs.Parts.{then_from, at_end, then_front}
 pub use Rattle.row_rules.specs.Text.{row_text, row_size, digit, newline}
-unfoldable pub use Rattle.row_rules.specs.Text.{row_at, two_digits_lem}
+unfoldable pub use Rattle.row_rules.specs.Text.{row_at, two_digits}
 pub use Rattle.row_rules.proofs.Theorems.{row_fits, row_size_lem}
 pub use Rattle.unit_rules.specs.declared.Unit.{Unit}
 pub use Rattle.unit_rules.proofs.WellMade.{well_made_says, last_small}

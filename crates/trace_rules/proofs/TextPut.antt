@@ -1,6 +1,6 @@
 -- What is answered for a text, with room for it and without; and which text it is, by how the load came out. Carried by the laws of decisions.
 -- Assumes nothing.
-use Rattle.trace_rules.proofs.Shared.{mid_of, put_mid, in_front, then_front, row_size, Unit, well_made_says, well_made_after, fresh_drained, go_begins}
+use Rattle.trace_rules.proofs.Shared.{mid_of, put_mid, at_front, then_front, row_size, Unit, well_made_says, well_made_after, fresh_drained, go_begins}
 use Rattle.trace_rules.proofs.Shared.{TextAnswer, rows_of, end_text, refused_text, trace_text, job_text, put_of, write_text_of}
 use Rattle.unit_rules.proofs.Shared.{ℕ, ◌+◌, ◌-◌, ◌*◌, ◌≤◌, ◌<◌, ◌≡◌, sym, ap, ◌∙◌, Bool, true, false, List, arith, lt-ltb, le-ltb}
 use Rattle.unit_rules.proofs.Shared.{eq-eqb, ne_eqb, leb-true, leb-false, leb, length, ROOM}
@@ -16,7 +16,7 @@ module _ (text buffer : List ℕ) where
   unfolding put_of
   no_room_for e h = rw e (stops _ _ (lt-ltb (length buffer) (length text) h))
 
-  pub text_put : {new : List ℕ} {size : ℕ} → length text ≤ length buffer → new ≡ in_front text buffer → size ≡ length text
+  pub text_put : {new : List ℕ} {size : ℕ} → length text ≤ length buffer → new ≡ at_front text buffer → size ≡ length text
       → ◌≡◌ {A = TextAnswer × List ℕ} (record { refusal = 0; size = size }, new) (put_of text buffer)
   unfolding put_of
   text_put h e g = rw (e, g) (passes _ _ _ (le-ltb (length buffer) (length text) h) ends)
@@ -26,7 +26,7 @@ module _ (text buffer : List ℕ) where
     pub room_for : t ≡ true → length text ≤ length buffer
     room_for h = omega (arith, leb-true (0 + size) (length buffer) (sym test ∙ h))
 
-    pub put_with_room : t ≡ true → {new : List ℕ} → new ≡ in_front text buffer
+    pub put_with_room : t ≡ true → {new : List ℕ} → new ≡ at_front text buffer
         → ◌≡◌ {A = TextAnswer × List ℕ} (record { refusal = 0; size = size }, new) (put_of text buffer)
     put_with_room h e = text_put (room_for h) e counted
 
@@ -45,8 +45,8 @@ module _ (u : Unit) (made : well_made_of u ≡ true) (went : u.gone ≡ true) {l
     pub rows_fit : t ≡ true → row_size * (last - u.cycle) ≤ length buffer
     rows_fit h = omega (arith, leb-true (row_size * (last - u.cycle) + 7) (length buffer) (sym test ∙ h))
 
-    pub trace_put : t ≡ true → {rows part : List ℕ} → rows ≡ in_front (rows_of (last - u.cycle) u) buffer
-        → part ≡ in_front (end_text (last - u.cycle)) (mid_of (row_size * (last - u.cycle)) (length rows - row_size * (last - u.cycle)) rows)
+    pub trace_put : t ≡ true → {rows part : List ℕ} → rows ≡ at_front (rows_of (last - u.cycle) u) buffer
+        → part ≡ at_front (end_text (last - u.cycle)) (mid_of (row_size * (last - u.cycle)) (length rows - row_size * (last - u.cycle)) rows)
         → ◌≡◌ {A = TextAnswer × List ℕ} (
           record { refusal = 0; size = row_size * (last - u.cycle) + 7 },
           put_mid (row_size * (last - u.cycle)) (length rows - row_size * (last - u.cycle)) rows part,

@@ -1,6 +1,6 @@
 -- For the reader of specs/: how much of a file decides, how long a text is and what room it takes, what is left of the buffer, and which text is printed when.
 -- Assumes nothing.
-use Rattle.trace_rules.proofs.Shared.{in_front, two_digits_lem, last_small, Unit, load_reads, fresh_drained, TextAnswer, rows_of, end_text, refused_text, text_for}
+use Rattle.trace_rules.proofs.Shared.{at_front, two_digits, last_small, Unit, load_reads, fresh_drained, TextAnswer, rows_of, end_text, refused_text, text_for}
 use Rattle.trace_rules.proofs.Shared.{job_text, put_of, write_text_of, largest_text, whole_text_of}
 use Rattle.unit_rules.proofs.Shared.{ℕ, ◌-◌, ◌≤◌, ◌≡◌, refl, sym, ap, ◌∙◌, Bool, true, false, List, [], ◌∷◌, ◌++◌, arith}
 use Rattle.unit_rules.proofs.Shared.{eqb-true, eqb-false, eqb, length, take, replicate, length-append, length-drop, length-replicate}
@@ -38,7 +38,7 @@ accepted_text_lem file h =
 
 -- the file of eight bytes, a job with no instructions: END 00
 pub empty_job : job_text (0 ∷ 0 ∷ 0 ∷ 0 ∷ 8 ∷ 0 ∷ 8 ∷ 0 ∷ []) ≡ 69 ∷ 78 ∷ 68 ∷ 32 ∷ 48 ∷ 48 ∷ 10 ∷ []
-unfolding end_text rows_of two_digits_lem load_of go_of well_made_of drained_of header_of tested_of body_of decided first_bad
+unfolding end_text rows_of two_digits load_of go_of well_made_of drained_of header_of tested_of body_of decided first_bad
 empty_job = accepted_text_lem (0 ∷ 0 ∷ 0 ∷ 0 ∷ 8 ∷ 0 ∷ 8 ∷ 0 ∷ []) refl
 
 -- the bytes of a file that decide what is read of it decide its text: a file that is too long is refused as they are
@@ -72,7 +72,7 @@ largest_reached file ok full =
     rw (← (text_accepted file refl refl refl ok)) (omega (arith, trace_long u (gone_made file refl refl refl) (went_on file refl refl refl) refl))
 
 pub always_room : (file buffer : List ℕ) → largest_text ≤ length buffer
-    → write_text_of file buffer ≡ (record { refusal = 0; size = length (job_text file) }, in_front (job_text file) buffer)
+    → write_text_of file buffer ≡ (record { refusal = 0; size = length (job_text file) }, at_front (job_text file) buffer)
 always_room file buffer h = sym (text_put (job_text file) buffer (omega (arith, text_size file)) refl refl)
 
 -- by value there is room for every text: its first bytes are the text, and there are as many as the largest has

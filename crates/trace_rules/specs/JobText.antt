@@ -1,10 +1,10 @@
 -- What the program `trace` prints for a job, and what the writer of it answers.
 -- Assumes nothing.
 use Rattle.std.specs.Prelude.{ℕ, zero, suc, ◌%◌, cond, List, [], ◌∷◌, ◌++◌, eqb, ltb, length, replicate}
-use Rattle.buffer.specs.Front.{in_front}
+use Rattle.buffer.specs.Front.{at_front}
 use Rattle.table.specs.Decided.{decided}
 use Rattle.table.specs.Refusal.{ROOM}
-use Rattle.row_rules.specs.Text.{digit, two_digits_lem, behind_space, newline, row_text}
+use Rattle.row_rules.specs.Text.{digit, two_digits, behind_space, newline, row_text}
 use Rattle.unit_rules.specs.declared.Unit.{Unit}
 use Rattle.unit_rules.specs.declared.Loaded.{Loaded}
 use Rattle.unit_rules.specs.Cycle.{cycles_of}
@@ -20,11 +20,11 @@ rows_of (suc c) u = rows_of c u ++ row_text (shown_of (cycles_of c u))
 
 -- "a line of `END` and the cycle count in two digits"
 unfoldable pub end_text : ℕ → List ℕ
-end_text c = (69 ∷ 78 ∷ 68 ∷ []) ++ behind_space (two_digits_lem c) ++ newline
+end_text c = (69 ∷ 78 ∷ 68 ∷ []) ++ behind_space (two_digits c) ++ newline
 
 -- "without leading zeros": one digit, or two
 abbrev pub short_digits : ℕ → List ℕ
-short_digits k = cond (ltb k 10) (digit (k % 10) ∷ []) (two_digits_lem k)
+short_digits k = cond (ltb k 10) (digit (k % 10) ∷ []) (two_digits k)
 
 -- "or only a line of `REFUSED` and the number"
 unfoldable pub refused_text : ℕ → List ℕ
@@ -55,7 +55,7 @@ unfoldable pub put_of : List ℕ → List ℕ → TextAnswer × List ℕ
 put_of text buffer =
     decided
     ((ltb (length buffer) (length text), (record { refusal = ROOM; size = 0 }, buffer)) ∷ [])
-    (record { refusal = 0; size = length text }, in_front text buffer)
+    (record { refusal = 0; size = length text }, at_front text buffer)
 
 -- the answer, and the buffer afterwards
 abbrev pub write_text_of : List ℕ → List ℕ → TextAnswer × List ℕ
@@ -67,4 +67,4 @@ largest_text = 5233
 
 -- a text by value: at the front of so many zeros, with its size
 abbrev pub whole_text_of : List ℕ → WholeText
-whole_text_of file = record { bytes = in_front (job_text file) (replicate largest_text 0); size = length (job_text file) }
+whole_text_of file = record { bytes = at_front (job_text file) (replicate largest_text 0); size = length (job_text file) }

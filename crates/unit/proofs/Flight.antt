@@ -2,7 +2,7 @@
 -- the indices are in range because a latch holds a line of the program.
 -- Assumes nothing.
 use Rattle.unit_rules.proofs.Shared.{ℕ, ◌-◌, ◌<◌, min, ◌≡◌, sym, ap, subst, ◌∙◌, List, Register, fetched_in, after_ex, after_id}
-use Rattle.unit_rules.proofs.Shared.{write_of, executed_by, sources_of, read_at_lem, decoded_with}
+use Rattle.unit_rules.proofs.Shared.{write_of, executed_by, sources_of, read_at, decoded_with}
 use Rattle.table.specs.declared.Count.{Count}
 use Rattle.job_rules.specs.declared.Program.{Program}
 use Rattle.unit_rules.specs.declared.Operands.{Operands}
@@ -29,7 +29,7 @@ module _ (latch : IfId) {from : Sources} (e : from ≡ sources_of latch) where
   pub third_in_range : (sources_of latch).third.0 < 32 → from.third.0 < 32
   third_in_range h = rw e h
 
-  pub read_there : (f : List Register) → read_at_lem from f ≡ read_at_lem (sources_of latch) f
+  pub read_there : (f : List Register) → read_at from f ≡ read_at (sources_of latch) f
   read_there f = rw e
 
 -- ---- what is in flight
@@ -39,7 +39,7 @@ line_in_range p k e = let s = subst Small (sym e) (small_fetched p k) in (s.firs
 
 module _ (p : Program) (c : ℕ) (f : List Register) where
   -- a latch that holds what was fetched in cycle k, and what was read for it
-  module _ (k : ℕ) {z : IfId} (holds : z ≡ fetched_in p k) {o : Operands} (read : o ≡ read_at_lem (sources_of z) f) {d : IdEx} (latched : d ≡ decoded_with z o) where
+  module _ (k : ℕ) {z : IfId} (holds : z ≡ fetched_in p k) {o : Operands} (read : o ≡ read_at (sources_of z) f) {d : IdEx} (latched : d ≡ decoded_with z o) where
     told_in_id_ex : d ≡ after_id (fetched_in p k) f
     told_in_id_ex = latched ∙ rw (read, holds) (decode (fetched_in p k) f)
 
@@ -48,9 +48,9 @@ module _ (p : Program) (c : ℕ) (f : List Register) where
 
   pub all_told : {one two : ℕ} → one ≡ c - 1 → two ≡ c - 2
       → {z : IfId} → z ≡ fetched_in p one
-      → {y : IfId} → y ≡ fetched_in p two → {q : Operands} → q ≡ read_at_lem (sources_of y) f → {b : IdEx} → b ≡ decoded_with y q
+      → {y : IfId} → y ≡ fetched_in p two → {q : Operands} → q ≡ read_at (sources_of y) f → {b : IdEx} → b ≡ decoded_with y q
       → {n : Count} → n ≡ record { 0 = min c p.n.0 } → {x : IfId} → x ≡ fetched_in p c
-      → {o : Operands} → o ≡ read_at_lem (sources_of z) f → {d : IdEx} → d ≡ decoded_with z o
+      → {o : Operands} → o ≡ read_at (sources_of z) f → {d : IdEx} → d ≡ decoded_with z o
       → {w : Write} → w ≡ write_of EX/WB.Empty → {e : ExWb} → e ≡ executed_by w b
       → ◌≡◌ {A = InFlight} (record { count = n; fetched = x; decoded = d; executed = e }) (settled_flight p c f)
   all_told first second hz hy rq lb count fetched ro ld nothing worked =

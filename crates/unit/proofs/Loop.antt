@@ -4,7 +4,7 @@
 use Rattle.unit_rules.proofs.Shared.{ℕ, zero, suc, ◌+◌, ◌-◌, ◌%◌, ◌≤◌, ◌<◌, ◌≡◌, refl, sym, ap, subst, ◌∙◌, Bool, true, false, cond, List, add_assoc, add-zero}
 use Rattle.unit_rules.proofs.Shared.{add-one, arith, ltb, get_or, set, Register, zero_register, Target, None, To, is_li, rd_of, rs1_of, first_of, Edition}
 use Rattle.unit_rules.proofs.Shared.{target_of, instruction_of, instruction_at, fetched_in, after_wb, after_id, cycle_of, cycles_of, in_executed, well_made_of, write_to}
-use Rattle.unit_rules.proofs.Shared.{write_of, sources_of, read_at_lem, decoded_with, in_flight_of, unit_with, advanced_of}
+use Rattle.unit_rules.proofs.Shared.{write_of, sources_of, read_at, decoded_with, in_flight_of, unit_with, advanced_of}
 use Rattle.job_rules.specs.declared.Program.{Program}
 use Rattle.unit_rules.specs.declared.IfId.{IfId}
 use Rattle.unit_rules.specs.declared.IfId.TheVariants as IF/ID
@@ -24,12 +24,12 @@ pub turn : (u : Unit) {g : List Register} {l : InFlight} {w : Write} {v : Source
     → u.program.n.0 ≤ 64
     → w ≡ write_of u.executed → g ≡ cond w.writes (set u.registers w.at.0 w.value) u.registers
     → v ≡ sources_of u.fetched
-    → l ≡ advanced_of u.program.edition u.program.n (in_flight_of u) w (read_at_lem v g) (get_or u.program.words (u.count.0 % 64) 0)
+    → l ≡ advanced_of u.program.edition u.program.n (in_flight_of u) w (read_at v g) (get_or u.program.words (u.count.0 % 64) 0)
     → unit_with u 1 g l ≡ cycle_of u
 unfolding cycle_of
 turn u {g = g} few ew eg ev el =
     let stored : g ≡ after_wb u.executed u.registers = eg ∙ rw ew (write_back u.executed u.registers) in
-    let read : decoded_with u.fetched (read_at_lem (sources_of u.fetched) g) ≡ after_id u.fetched g = decode u.fetched g in
+    let read : decoded_with u.fetched (read_at (sources_of u.fetched) g) ≡ after_id u.fetched g = decode u.fetched g in
     let worked = execute u.executed u.decoded in
     let fetched = deliver u.program u.count few in
     rw (el, ev, ew, read, stored, worked, fetched)

@@ -4,7 +4,7 @@ use mathlib.Core.Path.{◌≡◌}
 use mathlib.Core.Bool.{Bool, false}
 use borrow.Author.Tests.{eq-eqb, ne_eqb}
 use Rattle.unit_rules.specs.declared.Instruction.{Instruction}
-use Rattle.unit_rules.specs.Record.{same_target_lem, same_instruction}
+use Rattle.unit_rules.specs.Record.{same_target, same_instruction}
 
 module _ (i j : Instruction) where
   pub other_word : (i.word ≡ j.word → ⊥) → false ≡ same_instruction i j
@@ -22,5 +22,5 @@ module _ (i j : Instruction) where
         pub other_third : (i.third.0 ≡ j.third.0 → ⊥) → false ≡ same_instruction i j
         other_third h = rw (eq-eqb _ _ word, eq-eqb _ _ first, eq-eqb _ _ second, ne_eqb _ _ h)
 
-        pub the_same : i.third.0 ≡ j.third.0 → {t : Bool} → t ≡ same_target_lem i.target j.target → t ≡ same_instruction i j
+        pub the_same : i.third.0 ≡ j.third.0 → {t : Bool} → t ≡ same_target i.target j.target → t ≡ same_instruction i j
         the_same third e = rw (eq-eqb _ _ word, eq-eqb _ _ first, eq-eqb _ _ second, eq-eqb _ _ third) e

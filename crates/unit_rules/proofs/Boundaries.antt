@@ -30,7 +30,7 @@ use Rattle.unit_rules.specs.Record.{program_made, numbers_made, drained_of, well
 use Rattle.unit_rules.specs.Stages.{in_flight_of, unit_with}
 use Rattle.unit_rules.specs.Sequence.{Call, cycles_in, renews, renews_in_all}
 use Rattle.unit_rules.specs.Sequence.Call.{load, go, cycle, row, run, register, drained}
-use Rattle.unit_rules.specs.Calls.{begun_of, fresh_of, load_of, go_of, cycled_of, goes_on_lem, ran_of, register_of, asked_drained}
+use Rattle.unit_rules.specs.Calls.{begun_of, fresh_of, load_of, go_of, cycled_of, goes_on, ran_of, register_of, asked_drained}
 
 -- a program of these lines, in either edition, and in the first
 abbrev lines_in : Edition → List ℕ → Program
@@ -56,7 +56,7 @@ register_numbers = refl
 
 -- "a single cycle asked of a drained unit"; a run is not refused
 pub drained_unit : ((cycled_of fresh_of).refusal ∷ (ran_of fresh_of 1).refusal ∷ (ran_of fresh_of 1).made ∷ []) ≡ (8 ∷ 0 ∷ 0 ∷ [])
-unfolding cycled_of ran_of goes_on_lem decided well_made_of drained_of first_bad
+unfolding cycled_of ran_of goes_on decided well_made_of drained_of first_bad
 drained_unit = refl
 
 -- a go and a load that are accepted, no other call, and so no calls at all, end what demand 3 says of the last go; and no cycle is made in these and in the calls that ask
@@ -68,16 +68,16 @@ pub what_renews : (u : Unit) (file : List ℕ) (room : Bool) (k i : ℕ)
 what_renews u file room k i = (refl, refl, refl)
 
 -- a program of one line on a unit that has gone or not, and that unit but for its cycle number, its count, or what stands in IF/ID
-abbrev one_line_lem : Bool → Unit
-one_line_lem gone = begun_of gone (lines (0 ∷ [])) (replicate 32 zero_register)
+abbrev one_line : Bool → Unit
+one_line gone = begun_of gone (lines (0 ∷ [])) (replicate 32 zero_register)
 
 abbrev but_for : Bool → ℕ → ℕ → IfId → Unit
 but_for gone c count fetched =
-    unit_with (one_line_lem gone) c (replicate 32 zero_register) (record { count = record { 0 = count }; fetched = fetched; decoded = ID/EX.Empty; executed = EX/WB.Empty })
+    unit_with (one_line gone) c (replicate 32 zero_register) (record { count = record { 0 = count }; fetched = fetched; decoded = ID/EX.Empty; executed = EX/WB.Empty })
 
 -- "loaded and not gone, in which count and cycle are zero and the latches empty": as it is loaded, at cycle 1, at count 1, with an instruction, and with all that cycle 1 has
 pub resting : map well_made_of
-    (one_line_lem false
+    (one_line false
     ∷ but_for false 1 0 IF/ID.Empty ∷ but_for false 0 1 IF/ID.Empty ∷ but_for false 0 0 (IF/ID.Holds (instruction_of One 0)) ∷ but_for false 1 1 (IF/ID.Holds (instruction_of One 0)) ∷ [])
     ≡ (true ∷ false ∷ false ∷ false ∷ false ∷ [])
 unfolding well_made_of first_bad
@@ -85,7 +85,7 @@ resting = refl
 
 -- gone, only the last of these is well made as well
 pub running : map well_made_of
-    (one_line_lem true
+    (one_line true
     ∷ but_for true 1 0 IF/ID.Empty ∷ but_for true 0 1 IF/ID.Empty ∷ but_for true 0 0 (IF/ID.Holds (instruction_of One 0)) ∷ but_for true 1 1 (IF/ID.Holds (instruction_of One 0)) ∷ [])
     ≡ (true ∷ false ∷ false ∷ false ∷ true ∷ [])
 unfolding well_made_of first_bad first_of operation_of target_of
@@ -115,16 +115,16 @@ unfolding well_made_of first_bad
 register_0_in_a_record = refl
 
 -- "then 18 (busy) when the unit isn't drained, then 1 onwards": a file of no bytes on a unit that has not gone, and cycle by cycle once it has
-pub busy_before_the_file : ((load_of [] (one_line_lem false)).refusal ∷ map (λ (c : ℕ). (load_of [] (cycles_of c (one_line_lem true))).refusal) (0 ∷ 1 ∷ 2 ∷ 3 ∷ 4 ∷ []))
+pub busy_before_the_file : ((load_of [] (one_line false)).refusal ∷ map (λ (c : ℕ). (load_of [] (cycles_of c (one_line true))).refusal) (0 ∷ 1 ∷ 2 ∷ 3 ∷ 4 ∷ []))
     ≡ (1 ∷ 18 ∷ 18 ∷ 18 ∷ 18 ∷ 1 ∷ [])
 unfolding load_of decided well_made_of drained_of cycles_of cycle_of first_bad first_of operation_of target_of header_of tested_of
 busy_before_the_file = refl
 
 -- a go in any of them is not refused, and its one line takes four cycles again
 pub go_at_any_time : (let again : Unit → ℕ = λ u. (go_of u).refusal + (ran_of (go_of u).unit 9).made in
-    again (one_line_lem false) ∷ map (λ (c : ℕ). again (cycles_of c (one_line_lem true))) (0 ∷ 1 ∷ 2 ∷ 3 ∷ 4 ∷ []))
+    again (one_line false) ∷ map (λ (c : ℕ). again (cycles_of c (one_line true))) (0 ∷ 1 ∷ 2 ∷ 3 ∷ 4 ∷ []))
     ≡ (4 ∷ 4 ∷ 4 ∷ 4 ∷ 4 ∷ 4 ∷ [])
-unfolding go_of ran_of goes_on_lem decided well_made_of drained_of cycles_of cycle_of first_bad first_of operation_of target_of
+unfolding go_of ran_of goes_on decided well_made_of drained_of cycles_of cycle_of first_bad first_of operation_of target_of
 go_at_any_time = refl
 
 -- and register 0, 31 and those between are as they stood
@@ -141,7 +141,7 @@ loaded_unit = (load_of (1 ∷ 0 ∷ 0 ∷ 0 ∷ 8 ∷ 0 ∷ 12 ∷ 0 ∷ 0 ∷ 0
 
 pub loaded_rests : (loaded_unit.program.n.0 ∷ (cycled_of loaded_unit).refusal ∷ (ran_of loaded_unit 9).made ∷ (ran_of (go_of loaded_unit).unit 9).made ∷ [])
     ≡ (1 ∷ 8 ∷ 0 ∷ 4 ∷ [])
-unfolding load_of go_of cycled_of ran_of goes_on_lem decided well_made_of drained_of cycle_of first_bad first_of operation_of target_of header_of tested_of body_of
+unfolding load_of go_of cycled_of ran_of goes_on decided well_made_of drained_of cycle_of first_bad first_of operation_of target_of header_of tested_of body_of
 loaded_rests = refl
 
 -- AHS of a register with itself, which clamps halfword 0, and AU behind it, cycle by cycle: EX/WB has the mark of the line that it holds, and of no other

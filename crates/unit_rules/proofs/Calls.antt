@@ -4,7 +4,7 @@
 use Rattle.unit_rules.proofs.Shared.{ℕ, zero, suc, ◌+◌, ◌-◌, ◌≤◌, ◌<◌, min, ◌≡◌, refl, sym, ap, ◌∙◌, Bool, true, false, List, []}
 use Rattle.unit_rules.proofs.Shared.{◌∷◌, add-zero, arith, eqb-true, eqb-false, lt-leb, le-leb, leb-true, leb-false, eqb, leb, DRAINED}
 use Rattle.unit_rules.proofs.Shared.{read_of, Unit, Cycled, Ran, cycles_of, drained_of, well_made_of, last_of, load_of, go_of, cycled_of}
-use Rattle.unit_rules.proofs.Shared.{ran_of, goes_on_lem, after_calls, Call, unit_after, made_unless, cycles_in, renews, unit_after_all, cycles_in_all, renews_in_all}
+use Rattle.unit_rules.proofs.Shared.{ran_of, goes_on, after_calls, Call, unit_after, made_unless, cycles_in, renews, unit_after_all, cycles_in_all, renews_in_all}
 use Rattle.table.proofs.Decided.{stops, passes, ends, not_denied, neither_held}
 use Rattle.unit_rules.specs.declared.Loaded.{Loaded}
 use Rattle.unit_rules.specs.declared.Gone.{Gone}
@@ -46,8 +46,8 @@ module _ (u : Unit) (made : well_made_of u ≡ true) (done : drained_of u ≡ tr
   unfolding cycled_of
   cycle_of_drained = sym (passes _ _ _ (not_denied made) (stops _ _ done))
 
-  no_more : (k : ℕ) → goes_on_lem k u ≡ (0, u)
-  unfolding goes_on_lem
+  no_more : (k : ℕ) → goes_on k u ≡ (0, u)
+  unfolding goes_on
   no_more zero = refl
   no_more (suc k) = rw done
 

@@ -3,7 +3,7 @@
 use Rattle.unit_rules.proofs.Shared.{◌<◌, ◌≤◌, ◌%◌, ◌≡◌, refl, Bool, true, false, cond, ◌&&◌, List, arith, ltb-true, ltb, get_or, set}
 use Rattle.unit_rules.proofs.Shared.{Register, Pointer, Target, None, To, takes_first, takes_second, takes_third, stored, IfId, IdEx, ExWb}
 use Rattle.unit_rules.proofs.Shared.{Program, read_by, is_target, newest, after_wb, after_ex, after_id, after_if, write_to, write_of, newest_by, executed_by}
-use Rattle.unit_rules.proofs.Shared.{sources_of, read_at_lem, decoded_with, delivered_of}
+use Rattle.unit_rules.proofs.Shared.{sources_of, read_at, decoded_with, delivered_of}
 use Rattle.unit_rules.proofs.Shared.IF/ID
 use Rattle.unit_rules.proofs.Shared.ID/EX
 use Rattle.unit_rules.proofs.Shared.EX/WB
@@ -46,7 +46,7 @@ execute wb (ID/EX.Holds i o) =
 
 -- ---- 3. ID
 
-pub decode : (latch : IfId) (f : List Register) → decoded_with latch (read_at_lem (sources_of latch) f) ≡ after_id latch f
+pub decode : (latch : IfId) (f : List Register) → decoded_with latch (read_at (sources_of latch) f) ≡ after_id latch f
 decode IF/ID.Empty f = refl
 decode (IF/ID.Holds i) f = refl
 

@@ -44,14 +44,14 @@ pub use Rattle.unit_rules.specs.Cycle.{instruction_of, after_wb, is_target, newe
 pub use Rattle.unit_rules.specs.Cycle.{instruction_at, given, count_after, fetched_in}
 unfoldable pub use Rattle.unit_rules.specs.Cycle.{cycle_of, cycles_of}
 pub use Rattle.unit_rules.specs.Calls.{gone_of, registers_set, registers_loaded, loaded_of, loaded_by, fresh_of, begun_of}
-unfoldable pub use Rattle.unit_rules.specs.Calls.{load_of, go_of, cycled_of, ran_of, register_of, asked_drained, goes_on_lem}
+unfoldable pub use Rattle.unit_rules.specs.Calls.{load_of, go_of, cycled_of, ran_of, register_of, asked_drained, goes_on}
 pub use Rattle.unit_rules.specs.Sequence.{Whole, after_calls, Call, unit_after, made_unless, cycles_in, renews, unit_after_all, cycles_in_all, renews_in_all}
 pub use Rattle.unit_rules.specs.declared.Cycled.{Cycled}
 pub use Rattle.unit_rules.specs.declared.Ran.{Ran}
-pub use Rattle.unit_rules.specs.Record.{last_of, in_decoded, in_executed, is_empty, same_target_lem, same_instruction, same_held, numbers_made}
+pub use Rattle.unit_rules.specs.Record.{last_of, in_decoded, in_executed, is_empty, same_target, same_instruction, same_held, numbers_made}
 pub use Rattle.unit_rules.specs.Record.{latches_made, all_empty, program_made, rest_made, run_made}
 unfoldable pub use Rattle.unit_rules.specs.Record.{drained_of, well_made_of}
-pub use Rattle.unit_rules.specs.Stages.{write_to, newest_by, executed_by, sources_of, read_at_lem, decoded_with, delivered_of, in_flight_of, unit_with}
+pub use Rattle.unit_rules.specs.Stages.{write_to, newest_by, executed_by, sources_of, read_at, decoded_with, delivered_of, in_flight_of, unit_with}
 pub use Rattle.unit_rules.specs.Stages.{advanced_of}
 unfoldable pub use Rattle.unit_rules.specs.Stages.{write_of}
 pub use Rattle.unit_rules.specs.declared.ExWb.TheVariants as EX/WB

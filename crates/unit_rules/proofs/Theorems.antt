@@ -4,7 +4,7 @@
 use Rattle.unit_rules.proofs.Shared.{ℕ, zero, suc, ◌+◌, ◌≤◌, ◌<◌, ◌≡◌, refl, sym, ap, subst, ◌∙◌, ◌↔◌, Bool, true, false, cond, not, ◌&&◌, ◌||◌, List}
 use Rattle.unit_rules.proofs.Shared.{arith, lt-ltb, le-ltb, leb-true, le-leb, eq-eqb, eqb-false, leb, eqb, get_or, length-replicate, Register, zero_register, STATE, DRAINED}
 use Rattle.unit_rules.proofs.Shared.{first_bad, lines_of, may_hold, IdEx, ExWb, Unit, Whole, in_decoded, in_executed, is_empty, all_empty, cycle_of}
-use Rattle.unit_rules.proofs.Shared.{Cycled, Ran, drained_of, well_made_of, fresh_of, load_of, go_of, cycled_of, goes_on_lem, ran_of, register_of, asked_drained}
+use Rattle.unit_rules.proofs.Shared.{Cycled, Ran, drained_of, well_made_of, fresh_of, load_of, go_of, cycled_of, goes_on, ran_of, register_of, asked_drained}
 use Rattle.unit_rules.proofs.Shared.{Call, unit_after, made_unless, cycles_in, renews, unit_after_all}
 use Rattle.unit_rules.proofs.Shared.IF/ID
 use Rattle.unit_rules.proofs.Shared.ID/EX
@@ -155,13 +155,13 @@ cycle_keeps u m = cycle_refused u (λ e. absurd (one_not_none (sym (ap made_unle
     one_not_none : ◌≡◌ {A = ℕ} 1 0 → ⊥
     one_not_none e = omega arith
 
-none_gone : (k : ℕ) (u : Unit) → (goes_on_lem k u).0 ≡ 0 → (goes_on_lem k u).1 ≡ u
-unfolding goes_on_lem
+none_gone : (k : ℕ) (u : Unit) → (goes_on k u).0 ≡ 0 → (goes_on k u).1 ≡ u
+unfolding goes_on
 none_gone zero u m = refl
 none_gone (suc k) u m = case (drained_of u) m
   where
-    case : (t : Bool) → (cond {A = ℕ × Unit} t (0, u) ((goes_on_lem k (cycle_of u)).0 + 1, (goes_on_lem k (cycle_of u)).1)).0 ≡ 0
-        → (cond {A = ℕ × Unit} t (0, u) ((goes_on_lem k (cycle_of u)).0 + 1, (goes_on_lem k (cycle_of u)).1)).1 ≡ u
+    case : (t : Bool) → (cond {A = ℕ × Unit} t (0, u) ((goes_on k (cycle_of u)).0 + 1, (goes_on k (cycle_of u)).1)).0 ≡ 0
+        → (cond {A = ℕ × Unit} t (0, u) ((goes_on k (cycle_of u)).0 + 1, (goes_on k (cycle_of u)).1)).1 ≡ u
     case true m = refl
     case false m = absurd (omega arith)
 

@@ -4,7 +4,7 @@ use mathlib.Core.Bool.{and-eq-true_iff}
 use Rattle.unit_rules.proofs.Shared.{ℕ, zero, suc, ◌+◌, ◌-◌, ◌≤◌, ◌<◌, min, ◌≡◌, refl, sym, ap, ◌∙◌, Bool, true, false, cond, ◌&&◌, false≢true}
 use Rattle.unit_rules.proofs.Shared.{add-zero, add-suc, arith, le-leb, leb-true, leb-false, eqb-true, eq-eqb, eqb, leb, Target, None, To}
 use Rattle.unit_rules.proofs.Shared.{get_or, zero_register, may_hold, first_bad, List, Register, Program, lines_of, IfId, Unit, fetched_in, cycle_of, cycles_of, in_decoded, in_executed, is_empty, all_empty, drained_of, last_of}
-use Rattle.unit_rules.proofs.Shared.{same_target_lem, same_instruction, same_held, program_made, numbers_made, run_made, rest_made, well_made_of, begun_of, goes_on_lem}
+use Rattle.unit_rules.proofs.Shared.{same_target, same_instruction, same_held, program_made, numbers_made, run_made, rest_made, well_made_of, begun_of, goes_on}
 use Rattle.unit_rules.proofs.Shared.IF/ID
 use Rattle.unit_rules.specs.declared.Instruction.{Instruction}
 use Rattle.unit_rules.proofs.Wired.{cycles_held}
@@ -29,19 +29,19 @@ both a b e = (and-eq-true_iff a b).0 e
 and_true : {a b : Bool} → a ≡ true → b ≡ true → (a && b) ≡ true
 and_true e f = rw (e, f)
 
-same_target_lem : (a b : Target) → same_target_lem a b ≡ true → a ≡ b
+same_target_lem : (a b : Target) → same_target a b ≡ true → a ≡ b
 same_target_lem None None e = refl
 same_target_lem None (To q) e = absurd (false≢true e)
 same_target_lem (To p) None e = absurd (false≢true e)
 same_target_lem (To p) (To q) e = ap (λ (k : ℕ). To (record { 0 = k })) (eqb-true p.0 q.0 e)
 
-target_itself : (a : Target) → same_target_lem a a ≡ true
+target_itself : (a : Target) → same_target a a ≡ true
 target_itself None = refl
 target_itself (To p) = eq-eqb p.0 p.0 refl
 
 same_instruction_lem : (i j : Instruction) → same_instruction i j ≡ true → i ≡ j
 same_instruction_lem i j e =
-    let a = both _ (same_target_lem i.target j.target) e in
+    let a = both _ (same_target i.target j.target) e in
     let b = both _ (eqb i.third.0 j.third.0) a.0 in
     let c = both _ (eqb i.second.0 j.second.0) b.0 in
     let d = both (eqb i.word j.word) (eqb i.first.0 j.first.0) c.0 in
@@ -207,13 +207,13 @@ cycles_join c (suc d) u = rw (add-suc c d) (ap cycle_of (cycles_join c d u))
 abbrev pub left_of : Unit → ℕ
 left_of u = last_of u.program.n.0 - u.cycle
 
-pub goes_on_lem : (k : ℕ) (u : Unit) → u.gone ≡ true → Placed u → goes_on_lem k u ≡ (min k (left_of u), cycles_of (min k (left_of u)) u)
-unfolding goes_on_lem cycles_of cycle_of
+pub goes_on_lem : (k : ℕ) (u : Unit) → u.gone ≡ true → Placed u → goes_on k u ≡ (min k (left_of u), cycles_of (min k (left_of u)) u)
+unfolding goes_on cycles_of cycle_of
 goes_on_lem zero u went h = let m : min zero (left_of u) ≡ 0 = omega arith in rw m
 goes_on_lem (suc k) u went h = go (drained_of u) refl (goes_on_lem k (cycle_of u) went (placed_cycle u h))
   where
-    go : (t : Bool) → drained_of u ≡ t → goes_on_lem k (cycle_of u) ≡ (min k (left_of (cycle_of u)), cycles_of (min k (left_of (cycle_of u))) (cycle_of u))
-        → ◌≡◌ {A = ℕ × Unit} (cond t (0, u) ((goes_on_lem k (cycle_of u)).0 + 1, (goes_on_lem k (cycle_of u)).1)) (min (suc k) (left_of u), cycles_of (min (suc k) (left_of u)) u)
+    go : (t : Bool) → drained_of u ≡ t → goes_on k (cycle_of u) ≡ (min k (left_of (cycle_of u)), cycles_of (min k (left_of (cycle_of u))) (cycle_of u))
+        → ◌≡◌ {A = ℕ × Unit} (cond t (0, u) ((goes_on k (cycle_of u)).0 + 1, (goes_on k (cycle_of u)).1)) (min (suc k) (left_of u), cycles_of (min (suc k) (left_of u)) u)
     go true q later =
         let last = leb-true (last_of u.program.n.0) u.cycle (sym (drained_is u went h) ∙ q) in
         let m : min (suc k) (left_of u) ≡ 0 = omega arith in

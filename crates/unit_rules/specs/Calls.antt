@@ -95,9 +95,9 @@ cycled_of u =
     (record { refusal = 0; unit = cycle_of u })
 
 -- as many cycles as the budget allows and the unit has left: how many, and the unit afterwards
-unfoldable pub goes_on_lem : ℕ → Unit → ℕ × Unit
-goes_on_lem zero u = (0, u)
-goes_on_lem (suc k) u = cond (drained_of u) (0, u) ((goes_on_lem k (cycle_of u)).0 + 1, (goes_on_lem k (cycle_of u)).1)
+unfoldable pub goes_on : ℕ → Unit → ℕ × Unit
+goes_on zero u = (0, u)
+goes_on (suc k) u = cond (drained_of u) (0, u) ((goes_on k (cycle_of u)).0 + 1, (goes_on k (cycle_of u)).1)
 
 -- "A run with a budget k makes min(k, cycles left) cycles and answers that number; drained, it answers 0 and is not refused."
 unfoldable pub ran_of : Unit → ℕ → Ran
@@ -105,7 +105,7 @@ ran_of u k =
     decided
     ((not (well_made_of u), record { refusal = STATE; made = 0; unit = u })
     ∷ [])
-    (record { refusal = 0; made = (goes_on_lem k u).0; unit = (goes_on_lem k u).1 })
+    (record { refusal = 0; made = (goes_on k u).0; unit = (goes_on k u).1 })
 
 -- "and a register asked by number 7"
 unfoldable pub register_of : Unit → ℕ → RegisterAnswer

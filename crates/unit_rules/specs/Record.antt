@@ -44,17 +44,17 @@ abbrev pub last_of : ℕ → ℕ
 last_of n = cond (eqb n 0) 0 (n + 3)
 
 -- the same instruction, the word and all that a latch says of it
-abbrev pub same_target_lem : Target → Target → Bool
-same_target_lem None None = true
-same_target_lem None (To q) = false
-same_target_lem (To p) None = false
-same_target_lem (To p) (To q) = eqb p.0 q.0
+abbrev pub same_target : Target → Target → Bool
+same_target None None = true
+same_target None (To q) = false
+same_target (To p) None = false
+same_target (To p) (To q) = eqb p.0 q.0
 
 abbrev pub same_instruction : Instruction → Instruction → Bool
 same_instruction i j =
     eqb i.word j.word
     && eqb i.first.0 j.first.0 && eqb i.second.0 j.second.0 && eqb i.third.0 j.third.0
-    && same_target_lem i.target j.target
+    && same_target i.target j.target
 
 abbrev pub same_held : IfId → IfId → Bool
 same_held IF/ID.Empty IF/ID.Empty = true

@@ -53,8 +53,8 @@ abbrev pub sources_of : IfId → Sources
 sources_of IF/ID.Empty = record { first = record { 0 = 0 }; second = record { 0 = 0 }; third = record { 0 = 0 } }
 sources_of (IF/ID.Holds i) = record { first = i.first; second = i.second; third = i.third }
 
-abbrev pub read_at_lem : Sources → List Register → Operands
-read_at_lem s f = record {
+abbrev pub read_at : Sources → List Register → Operands
+read_at s f = record {
   first = get_or f s.first.0 zero_register;
   second = get_or f s.second.0 zero_register;
   third = get_or f s.third.0 zero_register;

@@ -1,6 +1,0 @@
--- Carried by the contract of the lane operation at each of the four words.
-use Rattle.register.proofs.Equality.{same}
-use Rattle.alu.proofs.words.and as this
-
-pub and-spec : {M : Type 1} → this.Statement.statement M
-and-spec = this.Tie.close (this.Tie.spec _ _ _ _ (λ c. search same))

@@ -1,7 +1,0 @@
--- Carried by `order`: turned bits are in the order of the signed numbers.
-use Rattle.std.proofs.Common.{lit<, rules}
-use Rattle.alu_lanes.proofs.Signed as signed
-use Rattle.alu_lanes.proofs.ordered.less as this
-
-pub less-spec : {M : Type 1} → this.Statement.statement M
-less-spec = this.Tie.close (this.Tie.spec (λ c. signed.order 32 (lit< tt) _ _ (search rules) (search rules)))

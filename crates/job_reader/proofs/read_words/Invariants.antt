@@ -1,0 +1,17 @@
+-- Carried by `next_read`. The invariant: the array is filled with the words before i.
+use Prim.Native.Nat.{◌-◌, ◌≤◌}
+use mathlib.Core.Path.{◌≡◌, refl}
+use native.Mathlib.Omega.{arith}
+use borrow.Author.Rules.{rules}
+use lib.ListN.{drop}
+use Rattle.buffer.proofs.Parts.{at_end}
+use Rattle.job_rules.specs.Read.{filled}
+use Rattle.job_rules.specs.Layout.{words_in}
+use Rattle.job_rules.proofs.Pieces.{next_read, word_there}
+use Rattle.job_reader.proofs.read_words.Given as goal
+
+abbrev pub invariant-loop-i : goal.invariant-loop-i
+invariant-loop-i l = (l.i ≤ l.n) × (l.words ≡ filled 64 0 (words_in l.i (drop l.at l.l)))
+
+abbrev pub decreases-loop-i : goal.decreases-loop-i
+decreases-loop-i l = l.n - l.i

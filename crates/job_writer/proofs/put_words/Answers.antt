@@ -1,0 +1,23 @@
+-- Carried by `next_written`. The invariant: the words before i stand at the front.
+use Prim.Native.Nat.{◌-◌, ◌≤◌}
+use mathlib.Core.List.{flat_map}
+use mathlib.Core.Path.{◌≡◌, refl}
+use borrow.Author.Rules.{rules}
+use lib.ListN.{length, take}
+use Rattle.buffer.proofs.Parts.{through}
+use Rattle.buffer.specs.Front.{at_front}
+use Rattle.job_rules.specs.Layout.{four_bytes}
+use Rattle.job_rules.proofs.Pieces.{next_written}
+use Rattle.job_writer.proofs.put_words.Goals as goal
+
+pub loop-i-init : goal.loop-i-init
+unfolding flat_map
+loop-i-init c = (search rules, refl, refl)
+
+pub loop-i-preserved : goal.loop-i-preserved
+loop-i-preserved c = search (next_written, rules)
+
+pub returns : goal.returns
+returns c =
+    let a = c.args in
+    through (λ l. at_front (flat_map four_bytes l) a.out.now) a.words.now _ c.loop-i-test.false c.loop-i.invariant.2

@@ -1,0 +1,49 @@
+-- Carried by the laws of decisions: each test as it came out, in the order of the documents.
+use mathlib.Core.Path.{◌∙◌}
+use native.Mathlib.Omega.{arith}
+use borrow.Author.Rules.{rules}
+use Rattle.table.proofs.Decided.{deciding}
+use Rattle.job_rules.specs.Write.{size_or_refusal}
+use Rattle.job_rules.proofs.Pieces.{offset_bounds, job_size}
+use Rattle.job_writer.proofs.tests.size_or_refusal.Goals as goal
+
+pub returns-then-words-gt64 : goal.returns-then-words-gt64
+unfolding size_or_refusal
+returns-then-words-gt64 c = c.refused.ensures ∙ search deciding
+
+pub returns-then-registers-gt512 : goal.returns-then-registers-gt512
+returns-then-registers-gt512 c = c.refused-then-registers-gt512.ensures ∙ search deciding depth 12
+
+pub returns-then-registers-ne0 : goal.returns-then-registers-ne0
+returns-then-registers-ne0 c = c.refused-then-registers-ne0.ensures ∙ search deciding depth 12
+
+pub returns-then-bad-words : goal.returns-then-bad-words
+unfolding size_or_refusal
+returns-then-bad-words c = rw (c.refused-then-bad-words.ensures, ← c.first_bad-bad.ensures) (search deciding depth 12)
+
+pub returns-then-not-first_held : goal.returns-then-not-first_held
+unfolding size_or_refusal
+returns-then-not-first_held c =
+    rw (c.refused-then-not-first_held.ensures, ← c.first_bad-bad.ensures, ← c.first_held.ensures) (search deciding depth 12)
+
+pub overflow_add-size : goal.overflow_add-size
+overflow_add-size c =
+    let a = c.args in
+    omega (arith, offset_bounds a.edition)
+
+pub overflow_add-size-2 : goal.overflow_add-size-2
+overflow_add-size-2 c =
+    let a = c.args in
+    omega (arith, offset_bounds a.edition)
+
+pub returns-then-room-size : goal.returns-then-room-size
+unfolding size_or_refusal
+returns-then-room-size c =
+    rw (c.refused-then-room-size.ensures, ← c.first_bad-bad.ensures, ← c.first_held.ensures, job_size, ← c.instructions_at.ensures)
+    (search deciding depth 12)
+
+pub returns : goal.returns
+unfolding size_or_refusal
+returns c =
+    rw (← c.first_bad-bad.ensures, ← c.first_held.ensures, job_size, ← c.instructions_at.ensures)
+    (search deciding depth 12)

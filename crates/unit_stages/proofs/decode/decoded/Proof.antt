@@ -1,6 +1,0 @@
--- Carried by the instruction that the latch holds.
-use borrow.Author.Rules.{rules}
-use Rattle.unit_stages.proofs.decode.decoded as this
-
-pub decoded-spec : {M : Type 1} → this.Statement.statement M
-decoded-spec = this.Tie.close (this.Tie.spec (λ c. search rules) (λ c. search rules) (λ c. search rules) (λ c. rw c.before.latch.given.1))
