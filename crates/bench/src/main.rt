@@ -28,7 +28,7 @@
 
 #![tactic(auto)]
 
-ghost use Rattle.std.specs.Prelude.{◌≤◌, length};
+ghost use Rattle.std.specs.Prelude.{◌+◌, ◌≤◌, length};
 
 mod case;
 mod machine;
@@ -98,6 +98,7 @@ fn print_answer(streams: &mut Streams<impl Write, impl Write>, line: &[u8]) {
 
 fn line_at(script: &[u8], at: usize) -> &[u8]
     requires { at ≤ length script.now }
+    ensures { at + length result.now ≤ length script.now }
 {
     let end = line_end(script, at);
     &script[at..end]

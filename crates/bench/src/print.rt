@@ -32,10 +32,8 @@ fn mark(streams: &mut Streams<impl Write, impl Write>, given: u8) {
 // Marks as a row shows them, one after another.
 pub(crate) fn marks(streams: &mut Streams<impl Write, impl Write>, given: &[u8]) {
     print(streams, b" ");
-    let mut i = 0;
-    while i < given.len() {
-        mark(streams, given[i]);
-        i += 1;
+    for one in given {
+        mark(streams, *one);
     }
 }
 
@@ -85,10 +83,8 @@ pub(crate) fn front(
 )
     requires { count ≤ 12 }
 {
-    let mut i = 0;
-    while i < count {
+    for i in 0..count {
         byte(streams, buffer[i]);
-        i += 1;
     }
 }
 
@@ -97,8 +93,7 @@ pub(crate) fn altered(streams: &mut Streams<impl Write, impl Write>, buffer: &[u
     let mut count = 0;
     let mut first = 0;
     let mut last = 0;
-    let mut i = 0;
-    while i < MOST {
+    for i in 0..MOST {
         if buffer[i] != FILL {
             if count == 0 {
                 first = i;
@@ -106,7 +101,6 @@ pub(crate) fn altered(streams: &mut Streams<impl Write, impl Write>, buffer: &[u
             last = i;
             count += 1;
         }
-        i += 1;
     }
     number(streams, count);
     number(streams, first);
