@@ -1,8 +1,6 @@
 -- Carried by `next_stored`. The invariant: the bytes before i stand at the front.
-use Prim.Native.Nat.{◌-◌, ◌≤◌}
-use mathlib.Core.Path.{◌≡◌, refl}
+use mathlib.Core.Path.{refl}
 use borrow.Author.Rules.{rules}
-use lib.ListN.{length, take}
 use Rattle.buffer.proofs.Parts.{next_stored, through}
 use Rattle.buffer.specs.Front.{at_front}
 use Rattle.buffer.proofs.put_bytes.Goals as goal

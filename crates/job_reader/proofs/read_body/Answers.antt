@@ -1,8 +1,6 @@
 -- Carried by `bad_in_file`, `nonzero_in_file` and `job_in_file`: the words with their zeros hold the words of the file in front, and so do the registers.
-use mathlib.Core.Path.{sym}
 use borrow.Author.Rules.{rules}
 use Rattle.std.proofs.Common.{ap, not}
-use lib.Seq.{length-take-le}
 use Rattle.job_rules.proofs.Refusals.{bad_in_file, nonzero_in_file, job_in_file}
 use Rattle.job_reader.proofs.read_body.Goals as goal
 

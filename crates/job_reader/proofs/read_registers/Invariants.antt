@@ -1,14 +1,10 @@
 -- Carried by `next_read`. The invariant: the array is filled with the registers before i.
 use Prim.Native.Nat.{◌-◌, ◌≤◌}
-use mathlib.Core.Path.{◌≡◌, refl}
-use native.Mathlib.Omega.{arith}
-use borrow.Author.Rules.{rules}
+use mathlib.Core.Path.{◌≡◌}
 use lib.ListN.{drop}
-use Rattle.buffer.proofs.Parts.{at_end}
 use Rattle.register.specs.Layout.{zero_register}
 use Rattle.job_rules.specs.Read.{filled}
 use Rattle.job_rules.specs.Layout.{registers_of}
-use Rattle.job_rules.proofs.Pieces.{next_read}
 use Rattle.job_reader.proofs.read_registers.Given as goal
 
 abbrev pub invariant-loop-i : goal.invariant-loop-i

@@ -1,13 +1,9 @@
 -- Carried by `next_read`. The invariant: the array is filled with the words before i.
 use Prim.Native.Nat.{◌-◌, ◌≤◌}
-use mathlib.Core.Path.{◌≡◌, refl}
-use native.Mathlib.Omega.{arith}
-use borrow.Author.Rules.{rules}
+use mathlib.Core.Path.{◌≡◌}
 use lib.ListN.{drop}
-use Rattle.buffer.proofs.Parts.{at_end}
 use Rattle.job_rules.specs.Read.{filled}
 use Rattle.job_rules.specs.Layout.{words_in}
-use Rattle.job_rules.proofs.Pieces.{next_read, word_there}
 use Rattle.job_reader.proofs.read_words.Given as goal
 
 abbrev pub invariant-loop-i : goal.invariant-loop-i

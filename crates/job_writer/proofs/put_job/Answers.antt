@@ -3,10 +3,9 @@ use Prim.Native.Nat.{ℕ, ◌+◌, ◌-◌, ◌*◌}
 use mathlib.Core.List.{List}
 use borrow.Rule.Slice.PartMut.{put_mid}
 use native.Mathlib.Omega.{arith}
-use borrow.Author.Rules.{rules}
 use lib.ListN.{length}
 use Rattle.buffer.proofs.Parts.{all_fit_from}
-use Rattle.job_rules.proofs.Pieces.{offset_bounds, job_put}
+use Rattle.job_rules.proofs.Pieces.{job_put}
 use Rattle.job_writer.proofs.put_job.Goals as goal
 
 pub returns : goal.returns

@@ -1,12 +1,7 @@
 -- Carried by `next_written`. The invariant: the words before i stand at the front.
-use Prim.Native.Nat.{◌-◌, ◌≤◌}
 use mathlib.Core.List.{flat_map}
-use mathlib.Core.Path.{◌≡◌, refl}
+use mathlib.Core.Path.{refl}
 use borrow.Author.Rules.{rules}
-use lib.ListN.{length, take}
-use Rattle.buffer.proofs.Parts.{through}
-use Rattle.buffer.specs.Front.{at_front}
-use Rattle.job_rules.specs.Layout.{four_bytes}
 use Rattle.job_rules.proofs.Pieces.{next_written}
 use Rattle.job_writer.proofs.put_words.Goals as goal
 

@@ -1,6 +1,5 @@
 -- Carried by `one_line`.
 use mathlib.Core.Path.{ap, ◌∙◌}
-use borrow.Author.Rules.{rules}
 use lib.ListN.{get_or}
 use Rattle.plain_rules.specs.declared.ExecutedProgram.{ExecutedProgram}
 use Rattle.plain_rules.proofs.Refusals as laws

@@ -1,6 +1,5 @@
 -- Carried by the laws of decisions: the two tests, in their order.
 use Rattle.table.proofs.Decided.{deciding}
-use borrow.Author.Rules.{rules}
 use Rattle.plain_rules.specs.Answer.{execute_all_of}
 use Rattle.plain.proofs.Converted.{answered}
 use Rattle.plain.proofs.execute_all.Goals as goal

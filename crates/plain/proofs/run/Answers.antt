@@ -1,7 +1,6 @@
 -- Carried by `on_registers`.
 use mathlib.Core.Path.{ap, ◌∙◌}
 use mathlib.Core.List.{List}
-use borrow.Author.Rules.{rules}
 use Rattle.register.specs.declared.Register.{Register}
 use Rattle.register.specs.Layout.{zero_register}
 use Rattle.plain_rules.specs.Machine.{cleared_for}

@@ -1,5 +1,4 @@
 -- Carried by the laws of `RowWritten`: the test of the room as it came out.
-use borrow.Author.Rules.{rules}
 use Rattle.buffer.proofs.Room.{starts_within, part_long}
 use Rattle.row.proofs.RowWritten.{row_written, row_refused}
 use Rattle.row.proofs.write_row.Goals as goal

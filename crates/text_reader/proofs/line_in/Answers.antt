@@ -1,5 +1,4 @@
 -- Carried by the laws of `Lines`: the row and the operands as they came out.
-use borrow.Author.Rules.{rules}
 use Rattle.text_reader.proofs.Lines.{no_name, name_within, no_operands, line_read}
 use Rattle.text_reader.proofs.line_in.Goals as goal
 
@@ -9,12 +8,11 @@ returns-then-row-ge-ROWS c =
     c.refused_line.ensures
 
 pub operands_in-said-requires : goal.operands_in-said-requires
-operands_in-said-requires c =
-    (
-      c.requires,
-      c.if-row-ge-ROWS.false,
-      name_within _ c.shared_slice_known-1.given _ c.name_in-name.ensures _ c.row_of-row.ensures c.if-row-ge-ROWS.false,
-    )
+operands_in-said-requires c = (
+  c.requires,
+  c.if-row-ge-ROWS.false,
+  name_within _ c.shared_slice_known-1.given _ c.name_in-name.ensures _ c.row_of-row.ensures c.if-row-ge-ROWS.false,
+)
 
 pub returns-then-not-said : goal.returns-then-not-said
 returns-then-not-said c =

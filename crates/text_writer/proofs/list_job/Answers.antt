@@ -1,6 +1,5 @@
 -- Carried by the laws of `Jobs`: by what was read of the file.
 use mathlib.Core.Path.{sym}
-use borrow.Author.Rules.{rules}
 use lib.Seq.{length-take-le}
 use Rattle.text_writer.proofs.Jobs.{file_refused, lines_within, file_listed}
 use Rattle.text_writer.proofs.list_job.Goals as goal

@@ -1,9 +1,6 @@
 -- Carried by the laws of `Listings`: each test as it came out, in the order of the rules.
-use mathlib.Core.Path.{sym}
 use native.Mathlib.Omega.{arith}
-use borrow.Author.Rules.{rules}
-use lib.Seq.{length-take-le}
-use Rattle.text_writer.proofs.Listings.{listing_fits, too_many, bad_word, no_room, copied, put_within}
+use Rattle.text_writer.proofs.Listings.{listing_fits, too_many, bad_word, no_room, copied}
 use Rattle.text_writer.proofs.list_program.Goals as goal
 
 pub returns-then-words-gt64 : goal.returns-then-words-gt64

@@ -1,5 +1,4 @@
 -- Carried by `not_cycled`, `row_refused` and `row_put`: each test as it came out.
-use borrow.Author.Rules.{rules}
 use Rattle.trace_row.proofs.CycleWithRow.{not_cycled, row_refused, row_put}
 use Rattle.trace_row.proofs.cycle_with_row.Goals as goal
 

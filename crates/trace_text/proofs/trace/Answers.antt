@@ -1,6 +1,5 @@
 -- Carried by the laws of `TextPut`: the test of the room as it came out; the rows, and END at the front of the part behind them.
 use borrow.Author.Rules.{rules}
-use Rattle.buffer.proofs.Room.{starts_within, part_long}
 use Rattle.trace_rules.proofs.TextPut.{not_past, all_left, rows_fit, trace_put, trace_not_put}
 use Rattle.trace_text.proofs.trace.Goals as goal
 

@@ -1,5 +1,4 @@
 -- Carried by the laws of `TextPut`: the text that the load asks for, which the callee puts.
-use borrow.Author.Rules.{rules}
 use Rattle.trace_rules.proofs.TextPut.{refused_put, accepted_put, gone_made, went_on}
 use Rattle.trace_text.proofs.write_text.Goals as goal
 

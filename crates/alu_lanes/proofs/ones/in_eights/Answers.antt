@@ -1,5 +1,5 @@
 -- Carried by `counted`.
-use Rattle.std.proofs.Common.{refl, rules}
+use Rattle.std.proofs.Common.{refl}
 use Rattle.alu_lanes.proofs.Masks.{counted}
 use Rattle.alu_lanes.proofs.ones.in_eights.Goals as goal
 

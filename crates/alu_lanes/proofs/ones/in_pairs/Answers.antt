@@ -1,5 +1,5 @@
 -- Carried by `counted`, from the word itself, whose single bits are their own ones.
-use Rattle.std.proofs.Common.{sym, refl, arith, rules}
+use Rattle.std.proofs.Common.{sym, refl, arith}
 use Rattle.alu_rules.proofs.Ones.{single_bits}
 use Rattle.alu_lanes.proofs.Masks.{counted}
 use Rattle.alu_lanes.proofs.ones.in_pairs.Goals as goal

@@ -1,5 +1,4 @@
 -- Carried by the laws of decisions: each test as it came out, in the order of the documents, where the instructions stand at the offset that was answered.
-use borrow.Author.Rules.{rules}
 use Rattle.table.proofs.Decided.{deciding}
 use Rattle.job_rules.specs.Read.{tested_of}
 use Rattle.job_reader.proofs.header.tested.Goals as goal

@@ -1,6 +1,5 @@
 -- Carried by `next_byte` and `all_bytes`. The invariant: the array is filled with the bytes before i.
-use Prim.Native.Nat.{◌-◌, ◌≤◌}
-use mathlib.Core.Path.{◌≡◌, refl, ◌∙◌}
+use mathlib.Core.Path.{refl, ◌∙◌}
 use borrow.Author.Rules.{rules}
 use lib.ListN.{take, drop}
 use Rattle.buffer.proofs.Parts.{at_end}

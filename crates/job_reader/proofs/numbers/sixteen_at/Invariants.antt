@@ -1,11 +1,8 @@
 -- Carried by `next_byte` and `all_bytes`. The invariant: the array is filled with the bytes before i.
 use Prim.Native.Nat.{◌-◌, ◌≤◌}
-use mathlib.Core.Path.{◌≡◌, refl, ◌∙◌}
-use borrow.Author.Rules.{rules}
+use mathlib.Core.Path.{◌≡◌}
 use lib.ListN.{take, drop}
-use Rattle.buffer.proofs.Parts.{at_end}
 use Rattle.job_rules.specs.Read.{filled}
-use Rattle.job_rules.proofs.Pieces.{next_byte, all_bytes}
 use Rattle.job_reader.proofs.numbers.sixteen_at.Given as goal
 
 abbrev pub invariant-loop-i : goal.invariant-loop-i

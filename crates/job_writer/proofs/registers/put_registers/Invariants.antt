@@ -1,15 +1,10 @@
 -- Carried by `next_copied`. The invariant: the bytes of the registers before i stand at the front.
-use Prim.Native.Nat.{◌-◌, ◌*◌, ◌≤◌}
+use Prim.Native.Nat.{◌-◌, ◌≤◌}
 use mathlib.Core.List.{flat_map}
-use mathlib.Core.Path.{◌≡◌, refl, ap}
-use native.Mathlib.Omega.{arith}
-use borrow.Author.Rules.{rules}
+use mathlib.Core.Path.{◌≡◌}
 use lib.ListN.{length, take}
-use Rattle.buffer.proofs.Parts.{all_fit_from, through}
 use Rattle.buffer.specs.Front.{at_front}
-use Rattle.register.specs.declared.Register.{Register}
 use Rattle.register.specs.Layout.{bytes_of}
-use Rattle.job_rules.proofs.Pieces.{next_copied}
 use Rattle.job_writer.proofs.registers.put_registers.Given as goal
 
 abbrev pub invariant-loop-i : goal.invariant-loop-i

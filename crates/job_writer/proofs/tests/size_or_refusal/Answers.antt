@@ -1,10 +1,8 @@
 -- Carried by the laws of decisions: each test as it came out, in the order of the documents.
 use mathlib.Core.Path.{◌∙◌}
-use native.Mathlib.Omega.{arith}
-use borrow.Author.Rules.{rules}
 use Rattle.table.proofs.Decided.{deciding}
 use Rattle.job_rules.specs.Write.{size_or_refusal}
-use Rattle.job_rules.proofs.Pieces.{offset_bounds, job_size}
+use Rattle.job_rules.proofs.Pieces.{job_size}
 use Rattle.job_writer.proofs.tests.size_or_refusal.Goals as goal
 
 pub returns-then-words-gt64 : goal.returns-then-words-gt64

@@ -1,12 +1,9 @@
 -- Carried by `next_filled`. The invariant: the first i registers are made of the first i rows.
 use Prim.Native.Nat.{◌-◌}
-use mathlib.Core.Path.{◌≡◌, refl}
+use mathlib.Core.Path.{◌≡◌}
 use mathlib.Core.List.{map}
-use native.Mathlib.Omega.{arith}
-use borrow.Author.Rules.{rules}
-use lib.ListN.{length, take, length-set}
+use lib.ListN.{length, take}
 use Rattle.register.specs.Layout.{of_row}
-use Rattle.plain.proofs.Converted.{next_filled, all_filled}
 use Rattle.plain.proofs.rows.registers_of.Given as goal
 
 abbrev pub invariant-loop-i : goal.invariant-loop-i

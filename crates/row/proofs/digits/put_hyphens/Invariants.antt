@@ -1,11 +1,9 @@
 -- Carried by `hyphen_more`. The invariant: i hyphens stand at the front.
 use Prim.Native.Nat.{◌-◌, ◌≤◌}
-use mathlib.Core.Path.{◌≡◌, refl}
-use borrow.Author.Rules.{rules}
+use mathlib.Core.Path.{◌≡◌}
 use lib.ListN.{length}
 use Rattle.buffer.specs.Front.{at_front}
 use Rattle.row_rules.specs.Text.{hyphens}
-use Rattle.row.proofs.Pieces.{hyphen_more, all_hyphens}
 use Rattle.row.proofs.digits.put_hyphens.Given as goal
 
 abbrev pub invariant-loop-i : goal.invariant-loop-i

@@ -1,6 +1,5 @@
 -- Carried by `sets-eq`: two stores, of the digits that the callees give.
 use native.Mathlib.Omega.{arith}
-use borrow.Author.Rules.{rules}
 use lib.Seq.{sets-eq}
 use Rattle.row_rules.specs.Text.{two_digits}
 use Rattle.row.proofs.digits.put_two.Goals as goal

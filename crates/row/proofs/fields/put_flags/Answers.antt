@@ -1,7 +1,6 @@
 -- Carried by `sets-eq`: stores one after another from the front on.
 use mathlib.Core.List.{[], ◌∷◌}
 use native.Mathlib.Omega.{arith}
-use borrow.Author.Rules.{rules}
 use lib.Seq.{sets-eq}
 use lib.ListN.{length-set}
 use Rattle.row_rules.specs.Text.{flags_text}

@@ -1,5 +1,4 @@
 -- Carried by the callees: hyphens or digits, as the change is.
-use borrow.Author.Rules.{rules}
 use Rattle.row_rules.specs.Text.{mark_text}
 use Rattle.row.proofs.fields.put_mark.Goals as goal
 

@@ -1,5 +1,4 @@
 -- Carried by the callees: hyphens or digits, as the change is.
-use borrow.Author.Rules.{rules}
 use Rattle.row_rules.specs.Text.{number_text}
 use Rattle.row.proofs.fields.put_number.Goals as goal
 

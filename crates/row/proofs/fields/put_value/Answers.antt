@@ -1,5 +1,4 @@
 -- Carried by the callees: hyphens or the register, as the change is.
-use borrow.Author.Rules.{rules}
 use Rattle.row_rules.specs.Text.{value_text}
 use Rattle.row.proofs.fields.put_value.Goals as goal
 

@@ -1,5 +1,4 @@
 -- Carried by the callees: hyphens or digits, as the stage is.
-use borrow.Author.Rules.{rules}
 use Rattle.row_rules.specs.Text.{stage_text}
 use Rattle.row.proofs.fields.put_word.Goals as goal
 

@@ -1,5 +1,4 @@
 -- Carried by `li_reads`, `multiply_reads` and `short_reads`.
-use borrow.Author.Rules.{rules}
 use Rattle.table.proofs.Rows.{li_reads, multiply_reads, short_reads}
 use Rattle.table.proofs.operands.reads.Goals as goal
 

@@ -1,10 +1,5 @@
 -- Carried by `none_bad` of `Places`. The invariant: where the bits so far are below 2^25, the first bad word from i on is the first of all.
-use Prim.Native.Nat.{◌+◌, ◌-◌, ◌≤◌, ◌<◌, ◌^◌}
-use mathlib.Core.Path.{◌≡◌}
 use native.Mathlib.Omega.{arith}
-use borrow.Author.Rules.{rules}
-use lib.ListN.{length, drop}
-use Rattle.table.specs.Refusal.{first_bad}
 use Rattle.table.proofs.Places.{bad_never, none_bad}
 use Rattle.table.proofs.refusal.gathered.Goals as goal
 

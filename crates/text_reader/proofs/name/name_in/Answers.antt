@@ -21,12 +21,11 @@ overflow_add-key c =
     )
 
 pub loop-size-preserved : goal.loop-size-preserved
-loop-size-preserved c =
-    (
-      omega arith,
-      omega arith,
-      name_more _ _ _ c.loop-size.invariant.2 (omega arith) (lt-ltb _ _ c.if-size-text.true) c.in_name.ensures c.if-in_name.true,
-    )
+loop-size-preserved c = (
+  omega arith,
+  omega arith,
+  name_more _ _ _ c.loop-size.invariant.2 (omega arith) (lt-ltb _ _ c.if-size-text.true) c.in_name.ensures c.if-in_name.true,
+)
 
 pub returns-else-in_name : goal.returns-else-in_name
 returns-else-in_name c =

@@ -11,12 +11,11 @@ returns-then-value-limit c =
     reaches_limit _ c.requires.1 c.loop-end.invariant.2 _ c.none.ensures (omega arith)
 
 pub loop-end-preserved : goal.loop-end-preserved
-loop-end-preserved c =
-    (
-      omega arith,
-      omega arith,
-      number_more c.loop-end.invariant.2 c.loop-end-test.true c.digit-d.ensures c.if-d-base.false,
-    )
+loop-end-preserved c = (
+  omega arith,
+  omega arith,
+  number_more c.loop-end.invariant.2 c.loop-end-test.true c.digit-d.ensures c.if-d-base.false,
+)
 
 pub judged-requires : goal.judged-requires
 judged-requires c =
@@ -25,7 +24,7 @@ judged-requires c =
       inv.1,
       c.requires.1,
       all_read inv.2 (elim c.loop-end-test.branch [
-        else-loop-end-test w ↦ front_at_end (is_digit _) _ _ w.loop-end-test.false
-      | then-loop-end-test+then-d-base w ↦ number_ended inv.2 w.loop-end-test.true w.digit-d.ensures w.if-d-base.true
+        | else-loop-end-test w ↦ front_at_end (is_digit _) _ _ w.loop-end-test.false
+        | then-loop-end-test+then-d-base w ↦ number_ended inv.2 w.loop-end-test.true w.digit-d.ensures w.if-d-base.true
       ]),
     )

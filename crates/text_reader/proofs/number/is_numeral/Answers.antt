@@ -1,7 +1,6 @@
 -- Carried by the laws of `Numbers` on numerals: each test as it came out.
 use native.Mathlib.Omega.{arith}
-use borrow.Author.Rules.{rules}
-use Rattle.text_reader.proofs.Numbers.{seven_digits, no_digits, other_first, zero_first}
+use Rattle.text_reader.proofs.Numbers.{other_first, zero_first}
 use Rattle.text_reader.proofs.number.is_numeral.Goals as goal
 
 pub returns-then-text-at-ne48 : goal.returns-then-text-at-ne48

@@ -7,8 +7,8 @@ pub returns-then-value-limit : goal.returns-then-value-limit
 returns-then-value-limit c =
     let pre = c.requires in
     elim c.then-value-limit.branch [
-      then-value-limit-via-then-value-limit w ↦ above_limit _ _ _ _ _ _ pre.2 pre.3 c.none.ensures w.if-value-limit.true
-    | then-value-limit-via-else-value-limit+then-not-is_numeral w ↦ no_number _ _ _ _ _ _ pre.2 pre.3 w.is_numeral.ensures c.none.ensures w.if-not-is_numeral.true
+      | then-value-limit-via-then-value-limit w ↦ above_limit _ _ _ _ _ _ pre.2 pre.3 c.none.ensures w.if-value-limit.true
+      | then-value-limit-via-else-value-limit+then-not-is_numeral w ↦ no_number _ _ _ _ _ _ pre.2 pre.3 w.is_numeral.ensures c.none.ensures w.if-not-is_numeral.true
     ]
 
 pub returns : goal.returns

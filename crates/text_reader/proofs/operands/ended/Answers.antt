@@ -1,6 +1,5 @@
 -- Carried by the test of the newline as it came out.
 use mathlib.Core.Path.{sym, ◌∙◌}
-use borrow.Author.Rules.{rules}
 use Rattle.text_rules.specs.Line.{operands_in}
 use Rattle.text_reader.proofs.operands.ended.Goals as goal
 

@@ -21,12 +21,11 @@ returns-then-not-begins_with c =
     c.not_stated.ensures
 
 pub number_in-number-requires : goal.number_in-number-requires
-number_in-number-requires c =
-    (
-      behind_space_lem c.loop-cell.invariant c.loop-cell-test.true (ap not (ne_eqb _ _ c.if-table-cell-ne0.true)) c.begins_with.ensures (ap not c.if-not-begins_with.false),
-      base_fits c.loop-cell.invariant,
-      limit_fits c.loop-cell.invariant c.loop-cell-test.true (ap not (ne_eqb _ _ c.if-table-cell-ne0.true)),
-    )
+number_in-number-requires c = (
+  behind_space_lem c.loop-cell.invariant c.loop-cell-test.true (ap not (ne_eqb _ _ c.if-table-cell-ne0.true)) c.begins_with.ensures (ap not c.if-not-begins_with.false),
+  base_fits c.loop-cell.invariant,
+  limit_fits c.loop-cell.invariant c.loop-cell-test.true (ap not (ne_eqb _ _ c.if-table-cell-ne0.true)),
+)
 
 pub returns-then-not-number : goal.returns-then-not-number
 returns-then-not-number c =
@@ -38,7 +37,7 @@ overflow_mul-word-in-loop-cell c =
     omega (
       arith,
       (operand_more c.loop-cell.invariant c.loop-cell-test.true (ap not (ne_eqb _ _ c.if-table-cell-ne0.true)) c.begins_with.ensures (ap not c.if-not-begins_with.false)
-      c.number_in-number.result c.number_in-number.ensures c.if-not-number.false).room,
+          c.number_in-number.result c.number_in-number.ensures c.if-not-number.false).room,
     )
 
 pub overflow_add-word-in-loop-cell-2 : goal.overflow_add-word-in-loop-cell-2
@@ -46,7 +45,7 @@ overflow_add-word-in-loop-cell-2 c =
     omega (
       arith,
       (operand_more c.loop-cell.invariant c.loop-cell-test.true (ap not (ne_eqb _ _ c.if-table-cell-ne0.true)) c.begins_with.ensures (ap not c.if-not-begins_with.false)
-      c.number_in-number.result c.number_in-number.ensures c.if-not-number.false).room,
+          c.number_in-number.result c.number_in-number.ensures c.if-not-number.false).room,
     )
 
 pub overflow_add-at-in-loop-cell : goal.overflow_add-at-in-loop-cell
@@ -54,7 +53,7 @@ overflow_add-at-in-loop-cell c =
     omega (
       arith,
       (operand_more c.loop-cell.invariant c.loop-cell-test.true (ap not (ne_eqb _ _ c.if-table-cell-ne0.true)) c.begins_with.ensures (ap not c.if-not-begins_with.false)
-      c.number_in-number.result c.number_in-number.ensures c.if-not-number.false).within,
+          c.number_in-number.result c.number_in-number.ensures c.if-not-number.false).within,
     )
 
 pub overflow_add-at-in-loop-cell-2 : goal.overflow_add-at-in-loop-cell-2
@@ -62,19 +61,19 @@ overflow_add-at-in-loop-cell-2 c =
     omega (
       arith,
       (operand_more c.loop-cell.invariant c.loop-cell-test.true (ap not (ne_eqb _ _ c.if-table-cell-ne0.true)) c.begins_with.ensures (ap not c.if-not-begins_with.false)
-      c.number_in-number.result c.number_in-number.ensures c.if-not-number.false).within,
+          c.number_in-number.result c.number_in-number.ensures c.if-not-number.false).within,
     )
 
 pub loop-cell-preserved : goal.loop-cell-preserved
 loop-cell-preserved c =
     operand_more c.loop-cell.invariant c.loop-cell-test.true (ap not (ne_eqb _ _ c.if-table-cell-ne0.true)) c.begins_with.ensures (ap not c.if-not-begins_with.false)
-      c.number_in-number.result c.number_in-number.ensures c.if-not-number.false
+    c.number_in-number.result c.number_in-number.ensures c.if-not-number.false
 
 pub returns : goal.returns
 returns c =
     let so_far = c.loop-cell.invariant in
     c.ended.ensures _
     ∙ elim c.loop-cell-test.branch [
-      else-loop-cell-test w ↦ row_ended so_far w.loop-cell-test.false
-    | then-loop-cell-test+else-table-cell-ne0 w ↦ zero_ended so_far w.loop-cell-test.true (ap not (eq-eqb _ _ w.if-table-cell-ne0.false))
+      | else-loop-cell-test w ↦ row_ended so_far w.loop-cell-test.false
+      | then-loop-cell-test+else-table-cell-ne0 w ↦ zero_ended so_far w.loop-cell-test.true (ap not (eq-eqb _ _ w.if-table-cell-ne0.false))
     ]

@@ -1,6 +1,5 @@
 -- Carried by the digits of a number, one or two of them, and by `put_digits` where there are more.
 use native.Mathlib.Omega.{arith}
-use borrow.Author.Rules.{rules}
 use lib.ListN.{length-set}
 use Rattle.text_writer.proofs.Digits.{one_digit, two_digits_lem, digits_fit, digits_put}
 use Rattle.text_writer.proofs.decimal.put_decimal.Goals as goal

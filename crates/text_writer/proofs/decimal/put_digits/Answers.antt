@@ -1,7 +1,6 @@
 -- Carried by the digits of a number, three, four or five of them: stored one after another.
 use Prim.Native.Nat.{◌≤◌}
 use native.Mathlib.Omega.{arith}
-use borrow.Author.Rules.{rules}
 use lib.ListN.{length, length-set}
 use Rattle.text_writer.proofs.Digits.{three_digits, four_digits, five_digits, digits_fit, digits_put}
 use Rattle.text_writer.proofs.decimal.put_digits.Goals as goal

@@ -1,7 +1,6 @@
 -- Carried by the laws of `Lines`: whether an instruction's line gives the word decides which line is put.
 use mathlib.Core.Path.{ap}
 use native.Mathlib.Omega.{arith}
-use borrow.Author.Rules.{rules}
 use lib.ListN.{length}
 use Rattle.text_writer.proofs.Lines.{word_line_long, taken_long, few_taken, small_taken, unnamed_line, named_line}
 use Rattle.text_writer.proofs.line.put_line.Goals as goal

@@ -1,9 +1,5 @@
 -- Carried by `word_put`: the name, the digits and the newline, stored one after another.
-use native.Mathlib.Omega.{arith}
-use borrow.Author.Rules.{rules}
-use lib.ListN.{length-set}
-use Rattle.text_writer.proofs.Lines.{word_line_long, word_put}
-use Rattle.text_writer.proofs.Pieces.{put_long}
+use Rattle.text_writer.proofs.Lines.{word_put}
 use Rattle.text_writer.proofs.line.put_word.Goals as goal
 
 pub returns : goal.returns

@@ -1,7 +1,7 @@
 -- Carried by the laws of `Operands`. The invariant: the numbers before the cell are stored.
 use Rattle.std.proofs.Common.{arith, ap, not}
 use borrow.Author.Tests.{ne_eqb, eq-eqb}
-use Rattle.text_writer.proofs.Operands.{NumbersSoFar, none_so_far, row_ended, cell_within, zero_ended, some_weight, limit_fits, weight_fits, operand_more}
+use Rattle.text_writer.proofs.Operands.{none_so_far, row_ended, zero_ended, some_weight, limit_fits, weight_fits, operand_more}
 use Rattle.text_writer.proofs.numbers.numbers_in.Goals as goal
 
 pub loop-count-init : goal.loop-count-init

@@ -1,10 +1,7 @@
 -- Carried by `number_put`. The invariant: the numbers before i stand at the front.
-use Prim.Native.Nat.{◌-◌}
-use mathlib.Core.Path.{◌≡◌, refl}
+use mathlib.Core.Path.{refl}
 use native.Mathlib.Omega.{arith}
-use borrow.Author.Rules.{rules}
-use lib.ListN.{length}
-use Rattle.text_writer.proofs.Pieces.{SoFar, behind_space, none_yet, all_put, as_long, number_fits, still_fits, digits_fit, number_put}
+use Rattle.text_writer.proofs.Pieces.{behind_space, none_yet, as_long, number_fits, still_fits, digits_fit, number_put}
 use Rattle.text_writer.proofs.numbers.put_numbers.Goals as goal
 
 pub loop-i-init : goal.loop-i-init

@@ -1,10 +1,8 @@
 -- Carried by `number_put`. The invariant: the numbers before i stand at the front.
 use Prim.Native.Nat.{◌-◌}
-use mathlib.Core.Path.{◌≡◌, refl}
-use native.Mathlib.Omega.{arith}
-use borrow.Author.Rules.{rules}
+use mathlib.Core.Path.{◌≡◌}
 use lib.ListN.{length}
-use Rattle.text_writer.proofs.Pieces.{SoFar, behind_space, none_yet, all_put, as_long, number_fits, still_fits, digits_fit, number_put}
+use Rattle.text_writer.proofs.Pieces.{SoFar, behind_space}
 use Rattle.text_writer.proofs.numbers.put_numbers.Given as goal
 
 abbrev pub invariant-loop-i : goal.invariant-loop-i

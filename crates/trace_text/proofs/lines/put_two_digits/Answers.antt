@@ -1,6 +1,6 @@
 -- Carried by `sets-eq`: three stores, of the digits that the callees give and of the newline.
 use Rattle.trace_rules.proofs.Shared.{two_digits, newline}
-use Rattle.unit_rules.proofs.Shared.{◌++◌, arith, rules, length-set, sets-eq}
+use Rattle.unit_rules.proofs.Shared.{◌++◌, arith, sets-eq}
 use Rattle.trace_text.proofs.lines.put_two_digits.Goals as goal
 
 pub returns : goal.returns

@@ -1,5 +1,4 @@
 -- Carried by the laws of decisions: each test as it came out.
-use borrow.Author.Rules.{rules}
 use Rattle.table.proofs.Decided.{deciding}
 use Rattle.unit_rules.specs.Calls.{register_of}
 use Rattle.unit.proofs.ask.register_of.Goals as goal

@@ -1,5 +1,5 @@
 -- Carried by the laws of `Loading`: the two answers of the reader.
-use Rattle.unit.proofs.Loading.{refused, few_registers, accepted}
+use Rattle.unit.proofs.Loading.{few_registers}
 use Rattle.unit.proofs.begin.load_file.Goals as goal
 
 pub set_registers-registers-requires : goal.set_registers-registers-requires

@@ -1,6 +1,5 @@
 -- Carried by `next_set`, `set_and_cleared` and `set_alone`. The invariant: the registers before i are set.
-use Rattle.unit_rules.proofs.Shared.{◌-◌, ◌≤◌, ◌≡◌, refl, arith, registers_set}
-use Rattle.unit.proofs.Loading.{next_set, set_and_cleared, set_alone}
+use Rattle.unit_rules.proofs.Shared.{◌-◌, ◌≤◌, ◌≡◌, registers_set}
 use Rattle.unit.proofs.begin.set_registers.Given as goal
 
 abbrev pub invariant-loop-i : goal.invariant-loop-i

@@ -1,7 +1,7 @@
 -- Carried by `turn` and `more`. The invariant: the unit is well made; registers, count and latches make up the unit after the cycles made so far.
-use Rattle.unit_rules.proofs.Shared.{◌-◌, ◌≤◌, true, ⊎_elim, ◌≡◌, refl, ◌∙◌, arith, rules, cycles_of, well_made_of, unit_with}
+use Rattle.unit_rules.proofs.Shared.{refl, ◌∙◌, arith, rules}
 use Rattle.unit_rules.proofs.WellMade.{well_made_says, last_small}
-use Rattle.unit.proofs.Loop.{none_yet, turn, more, all_made, first_in_range, second_in_range, third_in_range, write_in_range}
+use Rattle.unit.proofs.Loop.{none_yet, turn, more, first_in_range, second_in_range, third_in_range, write_in_range}
 use Rattle.unit.proofs.cycles.one_by_one.Goals as goal
 use Rattle.unit.proofs.cycles.one_by_one.Goals.{then-write, else-write}
 

@@ -1,6 +1,5 @@
 -- Carried by `by_lines`: a settled unit's registers are those of the plain machine after the lines that complete, and these tell the rest.
 use Prim.Native.Nat.{◌≤◌}
-use native.Mathlib.Omega.{arith}
 use borrow.Author.Rules.{rules}
 use lib.ListN.{length}
 use Rattle.unit_rules.specs.Sequence.{Whole}

@@ -1,5 +1,5 @@
 -- Carried by `all_told`: what is read and made in the registers is what a settled unit holds.
-use Rattle.unit.proofs.Flight.{line_in_range, all_told}
+use Rattle.unit.proofs.Flight.{line_in_range}
 use Rattle.unit.proofs.settled.flight_at.Goals as goal
 
 pub read_for-requires : goal.read_for-requires
