@@ -43,7 +43,7 @@ byte_left text size k h e =
 
 -- a key and a size so far: with what is left behind them they are those of the name
 pub record NameSoFar (text : List ℕ) (key size : ℕ) : Type 0 where
-  pub key_of_lem : positional 256 key (left_of text size) ≡ key_of (left_of text 0)
+  pub keyed : positional 256 key (left_of text size) ≡ key_of (left_of text 0)
   pub size_of : size + length (left_of text size) ≡ length (left_of text 0)
 
 -- ---- bytes, and so a key that fits 64 bits
@@ -68,7 +68,7 @@ module _ (text : List ℕ) (key size : ℕ) (so_far : NameSoFar text key size) w
   -- where nothing is left, the name is read
   name_read : left_of text size ≡ [] → NameRead (record { key = key; size = size }) text
   name_read none = record {
-    key = sym (ap (positional 256 key) none) ∙ so_far.key_of;
+    key = sym (ap (positional 256 key) none) ∙ so_far.keyed;
     size = omega (arith, so_far.size_of, ap length none);
   }
 
@@ -78,7 +78,7 @@ module _ (text : List ℕ) (key size : ℕ) (so_far : NameSoFar text key size) w
     name_more on =
         let left = byte_left text size short (ltb-true size (length text) there) (sym test ∙ on) in
         record {
-          key_of_lem = sym (ap (positional 256 key) left) ∙ so_far.key_of;
+          keyed = sym (ap (positional 256 key) left) ∙ so_far.keyed;
           size_of = omega (arith, so_far.size_of, ap length left);
         }
 
@@ -89,7 +89,7 @@ module _ (text : List ℕ) (key size : ℕ) (so_far : NameSoFar text key size) w
           arith,
           key_fits text (λ i. (bytes i).fits),
           at_least 256 (256 * key + get_or text size 0) (left_of text (size + 1)) (omega arith),
-          (name_more on).key_of,
+          (name_more on).keyed,
         )
 
     -- one that ends it

@@ -4,5 +4,5 @@ use borrow.Author.Rules.{rules}
 use Rattle.job_rules.proofs.Refusals.{refused_header, counts_fit}
 use Rattle.job_reader.proofs.read_job.Goals as goal
 
-pub returns : goal.returns
-returns c = search (refused_header, rules)
+pub read_body-requires : goal.read_body-requires
+read_body-requires c = counts_fit _ _ _ _ _ (sym c.read_header-header.ensures ∙ c.in-Counts.is)

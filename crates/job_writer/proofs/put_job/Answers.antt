@@ -9,15 +9,12 @@ use Rattle.buffer.proofs.Parts.{all_fit_from}
 use Rattle.job_rules.proofs.Pieces.{offset_bounds, job_put}
 use Rattle.job_writer.proofs.put_job.Goals as goal
 
-pub put_header-requires : goal.put_header-requires
-put_header-requires c κs = omega (arith, offset_bounds c.args.edition)
-
 pub returns : goal.returns
 returns c =
     let a = c.args in
     let at = c.instructions_at-at.result in
-    let front : List ℕ = c.put_header.new.0 in
-    let so_far = put_mid at (length front - at) front c.put_words.new.0 in
+    let front : List ℕ = c.put_header.new.out in
+    let so_far = put_mid at (length front - at) front c.put_words.new.out in
     job_put a.edition a.words.now a.registers.now at a.out.now _ _ _ c.instructions_at-at.ensures c.put_header.ensures
     c.put_words.ensures
     (all_fit_from (at + 4 * length a.words.now) a.registers.now so_far c.put_front.ensures (omega arith))

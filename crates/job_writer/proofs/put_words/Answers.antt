@@ -16,8 +16,3 @@ loop-i-init c = (search rules, refl, refl)
 
 pub loop-i-preserved : goal.loop-i-preserved
 loop-i-preserved c = search (next_written, rules)
-
-pub returns : goal.returns
-returns c =
-    let a = c.args in
-    through (λ l. at_front (flat_map four_bytes l) a.out.now) a.words.now _ c.loop-i-test.false c.loop-i.invariant.2

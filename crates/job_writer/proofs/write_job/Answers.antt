@@ -23,4 +23,7 @@ pub returns-then-answer-ne0 : goal.returns-then-answer-ne0
 returns-then-answer-ne0 c = search (tests.not_written, rules)
 
 pub put_job-requires : goal.put_job-requires
-put_job-requires c κs = fits _ _ _ _ c.size_or_refusal-answer.ensures c.if-answer-ne0.false
+put_job-requires c = fits _ _ _ _ c.size_or_refusal-answer.ensures c.if-answer-ne0.false
+
+pub returns : goal.returns
+returns c = search (tests.job_written, rules)

@@ -11,7 +11,10 @@ pub slice_bounds-put_row-start : goal.slice_bounds-put_row-start
 slice_bounds-put_row-start c = search starts_within
 
 pub put_row-requires : goal.put_row-requires
-put_row-requires c κs = search part_long
+put_row-requires c = search part_long
+
+pub returns-then-has_room : goal.returns-then-has_room
+returns-then-has_room c = search row_written
 
 pub returns : goal.returns
-returns c = search row_written
+returns c = search row_refused

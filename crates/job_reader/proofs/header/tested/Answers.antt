@@ -5,9 +5,11 @@ use Rattle.job_rules.specs.Read.{tested_of}
 use Rattle.job_reader.proofs.header.tested.Goals as goal
 
 pub returns-then-n-gt64 : goal.returns-then-n-gt64
+unfolding tested_of
 returns-then-n-gt64 c = search deciding depth 12
 
 pub returns-then-r-gt32 : goal.returns-then-r-gt32
+unfolding tested_of
 returns-then-r-gt32 c = search deciding depth 12
 
 pub returns-then-first-at : goal.returns-then-first-at

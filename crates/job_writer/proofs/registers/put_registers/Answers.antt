@@ -22,12 +22,7 @@ loop-i-preserved c =
     let i = c.loop-i.i in (
       search rules,
       search rules,
-      next_copied bytes_of 16 (λ (r : Register). refl) _ a.t2 a.out.now c.loop-i.out _ c.to_bytes-bytes.result i (search rules)
+      next_copied bytes_of 16 (λ (r : Register). refl) _ a.registers a.out.now c.loop-i.out _ c.to_bytes-bytes.result i (search rules)
           c.loop-i.invariant.2 c.to_bytes-bytes.ensures
           (all_fit_from (16 * i) c.to_bytes-bytes.result c.loop-i.out c.put_front.ensures (omega (arith, ap length c.to_bytes-bytes.ensures))),
     )
-
-pub returns : goal.returns
-returns c =
-    let a = c.args in
-    through (λ l. at_front (flat_map bytes_of l) a.out.now) a.t2 c.loop-i.i (search rules) c.loop-i.invariant.2

@@ -12,9 +12,11 @@ unfolding size_or_refusal
 returns-then-words-gt64 c = c.refused.ensures ∙ search deciding
 
 pub returns-then-registers-gt512 : goal.returns-then-registers-gt512
+unfolding size_or_refusal
 returns-then-registers-gt512 c = c.refused-then-registers-gt512.ensures ∙ search deciding depth 12
 
 pub returns-then-registers-ne0 : goal.returns-then-registers-ne0
+unfolding size_or_refusal
 returns-then-registers-ne0 c = c.refused-then-registers-ne0.ensures ∙ search deciding depth 12
 
 pub returns-then-bad-words : goal.returns-then-bad-words
@@ -25,16 +27,6 @@ pub returns-then-not-first_held : goal.returns-then-not-first_held
 unfolding size_or_refusal
 returns-then-not-first_held c =
     rw (c.refused-then-not-first_held.ensures, ← c.first_bad-bad.ensures, ← c.first_held.ensures) (search deciding depth 12)
-
-pub overflow_add-size : goal.overflow_add-size
-overflow_add-size c =
-    let a = c.args in
-    omega (arith, offset_bounds a.edition)
-
-pub overflow_add-size-2 : goal.overflow_add-size-2
-overflow_add-size-2 c =
-    let a = c.args in
-    omega (arith, offset_bounds a.edition)
 
 pub returns-then-room-size : goal.returns-then-room-size
 unfolding size_or_refusal

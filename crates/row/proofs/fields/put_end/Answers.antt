@@ -4,11 +4,5 @@ use lib.ListN.{length-set}
 use Rattle.row.proofs.Pieces.{row_end_put}
 use Rattle.row.proofs.fields.put_end.Goals as goal
 
-pub bounds-out-40 : goal.bounds-out-40
-bounds-out-40 c = simp length-set (search rules)
-
-pub bounds-out-43 : goal.bounds-out-43
-bounds-out-43 c = simp length-set (search rules)
-
 pub returns : goal.returns
-returns c = simp length-set (search rules)
+returns c = search (row_end_put, rules)

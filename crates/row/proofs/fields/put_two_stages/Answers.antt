@@ -5,8 +5,6 @@ use lib.ListN.{length-set}
 use Rattle.row.proofs.Pieces.{two_stages_put}
 use Rattle.row.proofs.fields.put_two_stages.Goals as goal
 
-pub bounds-out-0 : goal.bounds-out-0
-bounds-out-0 c = simp length-set (search rules)
-
 pub returns : goal.returns
-returns c = simp length-set (search rules)
+returns c =
+    two_stages_put _ _ c.args.out.now (omega arith) c.put_word.ensures c.put_word-2.ensures

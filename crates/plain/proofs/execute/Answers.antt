@@ -1,0 +1,10 @@
+-- Carried by `one_line`.
+use mathlib.Core.Path.{ap, ◌∙◌}
+use borrow.Author.Rules.{rules}
+use lib.ListN.{get_or}
+use Rattle.plain_rules.specs.declared.ExecutedProgram.{ExecutedProgram}
+use Rattle.plain_rules.proofs.Refusals as laws
+use Rattle.plain.proofs.execute.Goals as goal
+
+pub returns : goal.returns
+returns c = ap (λ (a : ExecutedProgram). record { executed = a.executed; mark = get_or a.marks 0 0 }) (c.execute_all-all.ensures ∙ laws.one_line_lem _ _ _)

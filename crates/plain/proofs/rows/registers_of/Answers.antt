@@ -1,0 +1,13 @@
+-- Carried by `next_filled`. The invariant: the first i registers are made of the first i rows.
+use Prim.Native.Nat.{◌-◌}
+use mathlib.Core.Path.{◌≡◌, refl}
+use mathlib.Core.List.{map}
+use native.Mathlib.Omega.{arith}
+use borrow.Author.Rules.{rules}
+use lib.ListN.{length, take, length-set}
+use Rattle.register.specs.Layout.{of_row}
+use Rattle.plain.proofs.Converted.{next_filled, all_filled}
+use Rattle.plain.proofs.rows.registers_of.Goals as goal
+
+pub loop-i-preserved : goal.loop-i-preserved
+loop-i-preserved c = (simp length-set (omega arith), search next_filled)
