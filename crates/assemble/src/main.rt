@@ -4,14 +4,18 @@
 
 #![tactic(auto)]
 
+ghost use Rattle.std.specs.Prelude.{◌≡◌};
 ghost use Rattle.console.specs.Input.{CameInto};
 
-use console::arguments::read_argument;
+use console::arguments::{PATH_MAX, is_argument, read_argument, read_name};
 use console::input::{Came, read_input};
-use console::output::{print_front, say_unreadable, write_refused, write_refused_line};
+use console::output::{
+    Stream, Streams, print_front, say_unreadable, standard, write_refused, write_refused_line,
+};
 use job_writer::{LARGEST, write_job};
-use libc::STDERR_FILENO;
 use script::same;
+use std::io::{Read, Write};
+use std::rt::{Env, Files};
 use table::Edition;
 use text_reader::{BYTES_TO_READ, read_text};
 
@@ -27,82 +31,106 @@ enum Asked {
 }
 
 // Whether an argument is this word.
-fn argument_is(number: usize, word: &[u8]) -> bool {
-    let mut name = io::buffer();
-    let length = os::arg(number, &mut name);
+fn argument_is(rt: &impl Env, number: usize, word: &[u8]) -> bool {
+    let mut name = [0u8; PATH_MAX];
+    let length = read_name(rt, number, &mut name);
     same(&name[..length], word)
 }
 
-fn asked_edition() -> Asked {
-    if os::arg_count() < 2 {
+fn asked_edition(rt: &impl Env) -> Asked {
+    if !is_argument(rt, 1) {
         return Asked::For(Edition::One, 1);
     }
-    if !argument_is(1, b"--edition") {
+    if !argument_is(rt, 1, b"--edition") {
         return Asked::For(Edition::One, 1);
     }
-    if os::arg_count() < 3 {
+    if !is_argument(rt, 2) {
         return Asked::Unknown;
     }
-    if argument_is(2, b"1") {
+    if argument_is(rt, 2, b"1") {
         return Asked::For(Edition::One, 3);
     }
-    if argument_is(2, b"2") {
+    if argument_is(rt, 2, b"2") {
         return Asked::For(Edition::Two, 3);
     }
     Asked::Unknown
 }
 
 // The bytes of the registers, from the file that this argument names, if there is one.
-fn read_registers(number: usize, room: &mut [u8]) -> Came
-    ensures { CameInto result room.new }
+fn read_registers<R: Env + Files, O: Write, E: Write>(
+    rt: &R,
+    streams: &mut Streams<O, E>,
+    number: usize,
+    room: &mut [u8],
+) -> Came
+    ensures into { CameInto result room.new }
+    ensures output { streams.new.output ≡ streams.old.output }
 {
-    if os::arg_count() <= number {
+    if !is_argument(rt, number) {
         return Came {
             failed: false,
             size: 0,
         };
     }
-    read_argument(number, room)
+    read_argument(rt, streams, number, room)
 }
 
-fn write_program(edition: Edition, words: &[u32], registers: &[u8]) {
+fn write_program(
+    streams: &mut Streams<impl Write, impl Write>,
+    edition: Edition,
+    words: &[u32],
+    registers: &[u8],
+) {
     let mut job = [0u8; LARGEST];
     let written = write_job(edition, words, registers, &mut job);
     if written.refusal != 0 {
-        write_refused(STDERR_FILENO, written.refusal);
+        write_refused(streams, Stream::Error, written.refusal);
         return;
     }
-    print_front(&job, written.size);
+    print_front(streams, &job, written.size);
 }
 
-fn assemble(edition: Edition, text: &[u8], registers: &[u8]) {
+fn assemble(
+    streams: &mut Streams<impl Write, impl Write>,
+    edition: Edition,
+    text: &[u8],
+    registers: &[u8],
+) {
     let read = read_text(text);
     if read.refusal != 0 {
-        write_refused_line(STDERR_FILENO, read.refusal, read.line);
+        write_refused_line(streams, Stream::Error, read.refusal, read.line);
         return;
     }
     let words = read.words;
     let n = read.n.0 as usize;
-    write_program(edition, &words[..n], registers);
+    write_program(streams, edition, &words[..n], registers);
 }
 
-fn main() {
-    let asked = asked_edition();
+fn run(
+    rt: &(impl Env + Files),
+    input: &mut impl Read,
+    streams: &mut Streams<impl Write, impl Write>,
+) {
+    let asked = asked_edition(rt);
     let Asked::For(edition, next) = asked else {
-        say_unreadable(b"--edition");
+        say_unreadable(streams, b"--edition");
         return;
     };
     let mut text = [0u8; BYTES_TO_READ];
-    let came = read_input(&mut text);
+    let came = read_input(input, streams, &mut text);
     if came.failed {
         return;
     }
     let mut registers = [0u8; REGISTER_BYTES];
-    let named = read_registers(next, &mut registers);
+    let named = read_registers(rt, streams, next, &mut registers);
     if named.failed {
         return;
     }
     let size = came.size;
     let bytes = named.size;
-    assemble(edition, &text[..size], &registers[..bytes]);
+    assemble(streams, edition, &text[..size], &registers[..bytes]);
+}
+
+fn main(rt: HostRuntime) {
+    run(&rt, &mut rt.stdin(), &mut standard(&rt));
 }

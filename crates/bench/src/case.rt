@@ -91,12 +91,10 @@ fn word_fits(word: &[u8], form: &[u8]) -> bool {
 
 // Whether a line is of a form, word by word.
 pub(crate) fn fits(line: &[u8], form: &[u8]) -> bool {
-    let mut i = 0;
-    while i < WORDS {
+    for i in 0..WORDS {
         if !word_fits(word(line, i), word(form, i)) {
             return false;
         }
-        i += 1;
     }
     true
 }
@@ -138,9 +136,7 @@ pub(crate) fn register(line: &[u8], i: usize) -> [u32; 4] {
 pub(crate) fn put_words(line: &[u8], from: usize, program: &mut [u32])
     requires { from ≤ 9 }
 {
-    let mut i = 0;
-    while i < NAMED && i < program.len() {
+    for i in 0..NAMED.min(program.len()) {
         program[i] = code(line, from + i).value;
-        i += 1;
     }
 }

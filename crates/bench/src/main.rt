@@ -28,7 +28,7 @@
 
 #![tactic(auto)]
 
-ghost use Rattle.std.specs.Prelude.{◌≤◌, length};
+ghost use Rattle.std.specs.Prelude.{◌+◌, ◌≤◌, length};
 
 mod case;
 mod machine;
@@ -40,83 +40,91 @@ mod writes;
 
 use crate::case::fits;
 use console::input::read_open;
-use console::output::{print, say};
-use libc::STDIN_FILENO;
+use console::output::{Streams, print, say, standard};
 use script::line_end;
+use std::io::{Read, Write};
+
+// The longest script, and one byte more.
+const SCRIPT_BYTES: usize = 65536;
 
 // Whether a line is a case; then its answer is printed.
-fn answers(line: &[u8]) -> bool {
+fn answers(streams: &mut Streams<impl Write, impl Write>, line: &[u8]) -> bool {
     if fits(line, b"row N S") {
-        rows::answer(line);
+        rows::answer(streams, line);
     } else if fits(line, b"cycle-row N S") {
-        units::answer_cycle(line);
+        units::answer_cycle(streams, line);
     } else if fits(line, b"read N N N N N") {
-        reads::answer(line);
+        reads::answer(streams, line);
     } else if fits(line, b"write N N N W W W W") {
-        writes::answer(line);
+        writes::answer(streams, line);
     } else if fits(line, b"plain N R W W W W") {
-        machine::answer_program(line);
+        machine::answer_program(streams, line);
     } else if fits(line, b"lone W R R R") {
-        machine::answer_word(line);
+        machine::answer_word(streams, line);
     } else if fits(line, b"record B B N B W W W W W W W") {
-        units::answer_record(line);
+        units::answer_record(streams, line);
     } else {
-        return answers_edition_2(line);
+        return answers_edition_2(streams, line);
     }
     true
 }
 
 // The same of the second edition's cases.
-fn answers_edition_2(line: &[u8]) -> bool {
+fn answers_edition_2(streams: &mut Streams<impl Write, impl Write>, line: &[u8]) -> bool {
     if fits(line, b"read-2 N N N N N N B") {
-        reads::answer_edition_2(line);
+        reads::answer_edition_2(streams, line);
     } else if fits(line, b"write-2 N N N B W W W W") {
-        writes::answer_edition_2(line);
+        writes::answer_edition_2(streams, line);
     } else if fits(line, b"plain-2 N R R W W W W") {
-        machine::answer_program_of_edition_2(line);
+        machine::answer_program_of_edition_2(streams, line);
     } else if fits(line, b"lone-2 W R R R") {
-        machine::answer_word_of_edition_2(line);
+        machine::answer_word_of_edition_2(streams, line);
     } else if fits(line, b"record-2 R B B N B W W W W W W W") {
-        units::answer_record_of_edition_2(line);
+        units::answer_record_of_edition_2(streams, line);
     } else {
         return false;
     }
     true
 }
 
-fn print_answer(line: &[u8]) {
-    print(line);
-    print(b" =");
-    if !answers(line) {
-        print(b" UNKNOWN");
+fn print_answer(streams: &mut Streams<impl Write, impl Write>, line: &[u8]) {
+    print(streams, line);
+    print(streams, b" =");
+    if !answers(streams, line) {
+        print(streams, b" UNKNOWN");
     }
-    print(b"\n");
+    print(streams, b"\n");
 }
 
 fn line_at(script: &[u8], at: usize) -> &[u8]
     requires { at ≤ length script.now }
+    ensures { at + length result.now ≤ length script.now }
 {
     let end = line_end(script, at);
     &script[at..end]
 }
 
-fn print_answers(script: &[u8]) {
+fn print_answers(streams: &mut Streams<impl Write, impl Write>, script: &[u8]) {
     let mut at = 0;
     while at < script.len() {
         let line = line_at(script, at);
-        print_answer(line);
+        print_answer(streams, line);
         at += line.len() + 1;
     }
 }
 
 // A script that fills the buffer may go on behind it: none of it is answered then.
-fn main() {
-    let mut script = io::large_buffer();
-    let came = read_open(STDIN_FILENO, &mut script);
+fn answer_all(input: &mut impl Read, streams: &mut Streams<impl Write, impl Write>) {
+    let mut script = [0u8; SCRIPT_BYTES];
+    let came = read_open(input, &mut script);
     if came.failed || came.size == script.len() {
-        say(b"UNREADABLE\n");
+        say(streams, b"UNREADABLE\n");
         return;
     }
     let size = came.size;
-    print_answers(&script[..size]);
+    print_answers(streams, &script[..size]);
+}
+
+fn main(rt: HostRuntime) {
+    answer_all(&mut rt.stdin(), &mut standard(&rt));
 }

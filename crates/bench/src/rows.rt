@@ -4,8 +4,10 @@ use crate::case::MOST;
 use crate::print::FILL;
 use crate::{case, print};
 use alu_rules::Outcome;
+use console::output::Streams;
 use register::Register;
 use row_rules::{Change, Flags, Row, Stage};
+use std::io::Write;
 use table::Pointer;
 
 fn full_row() -> Row {
@@ -28,12 +30,12 @@ fn full_row() -> Row {
     }
 }
 
-pub(crate) fn answer(line: &[u8]) {
+pub(crate) fn answer(streams: &mut Streams<impl Write, impl Write>, line: &[u8]) {
     let room = case::size(line, 1);
     let start = case::start(line, 2);
     let mut buffer = [FILL; MOST];
     let row = full_row();
     let refusal = row::write_row(&mut buffer[0..room], start, row);
-    print::number(refusal as usize);
-    print::altered(&buffer);
+    print::number(streams, refusal as usize);
+    print::altered(streams, &buffer);
 }

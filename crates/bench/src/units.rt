@@ -7,9 +7,11 @@ use crate::print::FILL;
 use crate::{case, print};
 use alu_rules::Outcome;
 use console::output;
+use console::output::Streams;
 use job_rules::Program;
 use register::Register;
 use script::Number;
+use std::io::Write;
 use table::{Count, Edition};
 use unit_record::latches::instruction;
 use unit_record::well_made;
@@ -91,87 +93,95 @@ fn record_from(edition: Edition, first: Register, line: &[u8], from: usize) -> U
     }
 }
 
-fn print_load(u: Unit) {
+fn print_load(streams: &mut Streams<impl Write, impl Write>, u: Unit) {
     let loaded = unit::load(u, &NO_LINES);
-    output::print(b"\nload =");
-    print::number(loaded.refusal as usize);
-    print::number(loaded.place);
-    print::unit(loaded.unit);
+    output::print(streams, b"\nload =");
+    print::number(streams, loaded.refusal as usize);
+    print::number(streams, loaded.place);
+    print::unit(streams, loaded.unit);
 }
 
-fn print_go(u: Unit) {
+fn print_go(streams: &mut Streams<impl Write, impl Write>, u: Unit) {
     let gone = unit::go(u);
-    output::print(b"\ngo =");
-    print::number(gone.refusal as usize);
-    print::unit(gone.unit);
+    output::print(streams, b"\ngo =");
+    print::number(streams, gone.refusal as usize);
+    print::unit(streams, gone.unit);
 }
 
-fn print_cycle(u: Unit) {
+fn print_cycle(streams: &mut Streams<impl Write, impl Write>, u: Unit) {
     let cycled = unit::cycle(u);
-    output::print(b"\ncycle =");
-    print::number(cycled.refusal as usize);
-    print::unit(cycled.unit);
+    output::print(streams, b"\ncycle =");
+    print::number(streams, cycled.refusal as usize);
+    print::unit(streams, cycled.unit);
 }
 
-fn print_run(u: Unit) {
+fn print_run(streams: &mut Streams<impl Write, impl Write>, u: Unit) {
     let ran = unit::run(u, 1000);
-    output::print(b"\nrun 1000 =");
-    print::number(ran.refusal as usize);
-    print::number(ran.made as usize);
-    print::unit(ran.unit);
+    output::print(streams, b"\nrun 1000 =");
+    print::number(streams, ran.refusal as usize);
+    print::number(streams, ran.made as usize);
+    print::unit(streams, ran.unit);
 }
 
-fn print_register(u: Unit, number: usize) {
+fn print_register(streams: &mut Streams<impl Write, impl Write>, u: Unit, number: usize) {
     let held = unit::register_of(u, number);
-    output::print(b"\nregister");
-    print::number(number);
-    output::print(b" =");
-    print::number(held.refusal as usize);
-    print::register(held.register);
+    output::print(streams, b"\nregister");
+    print::number(streams, number);
+    output::print(streams, b" =");
+    print::number(streams, held.refusal as usize);
+    print::register(streams, held.register);
 }
 
-fn print_drained(u: Unit) {
+fn print_drained(streams: &mut Streams<impl Write, impl Write>, u: Unit) {
     let answer = unit::drained(u);
-    output::print(b"\ndrained =");
-    print::number(answer.refusal as usize);
-    print::number(answer.drained as usize);
+    output::print(streams, b"\ndrained =");
+    print::number(streams, answer.refusal as usize);
+    print::number(streams, answer.drained as usize);
 }
 
-fn print_cycle_row(u: Unit, room: usize, start: usize)
+fn print_cycle_row(
+    streams: &mut Streams<impl Write, impl Write>,
+    u: Unit,
+    room: usize,
+    start: usize,
+)
     requires { room ≤ 800 }
 {
     let mut buffer = [FILL; MOST];
     let cycled = trace_row::cycle_with_row(u, &mut buffer[0..room], start);
-    print::number(cycled.refusal as usize);
-    print::altered(&buffer);
-    print::unit(cycled.unit);
+    print::number(streams, cycled.refusal as usize);
+    print::altered(streams, &buffer);
+    print::unit(streams, cycled.unit);
 }
 
-pub(crate) fn answer_cycle(line: &[u8]) {
+pub(crate) fn answer_cycle(streams: &mut Streams<impl Write, impl Write>, line: &[u8]) {
     let u = record_from(Edition::One, ones(), b"record 1 0 0 1", 0);
-    print_cycle_row(u, case::size(line, 1), case::start(line, 2));
+    print_cycle_row(streams, u, case::size(line, 1), case::start(line, 2));
 }
 
 // Every call, each on the record as it is given.
-fn print_calls(u: Unit) {
-    print::number(well_made(u) as usize);
-    print_load(u);
-    print_go(u);
-    print_cycle(u);
-    output::print(b"\ncycle-row 80 max =");
-    print_cycle_row(u, 80, LARGEST_START);
-    print_run(u);
-    print_register(u, 31);
-    print_register(u, 32);
-    print_register(u, LARGEST_NUMBER);
-    print_drained(u);
+fn print_calls(streams: &mut Streams<impl Write, impl Write>, u: Unit) {
+    print::number(streams, well_made(u) as usize);
+    print_load(streams, u);
+    print_go(streams, u);
+    print_cycle(streams, u);
+    output::print(streams, b"\ncycle-row 80 max =");
+    print_cycle_row(streams, u, 80, LARGEST_START);
+    print_run(streams, u);
+    print_register(streams, u, 31);
+    print_register(streams, u, 32);
+    print_register(streams, u, LARGEST_NUMBER);
+    print_drained(streams, u);
 }
 
-pub(crate) fn answer_record(line: &[u8]) {
-    print_calls(record_from(Edition::One, ones(), line, 0));
+pub(crate) fn answer_record(streams: &mut Streams<impl Write, impl Write>, line: &[u8]) {
+    print_calls(streams, record_from(Edition::One, ones(), line, 0));
 }
 
-pub(crate) fn answer_record_of_edition_2(line: &[u8]) {
+pub(crate) fn answer_record_of_edition_2(
+    streams: &mut Streams<impl Write, impl Write>,
+    line: &[u8],
+) {
     let first = Register::from_row(case::register(line, 1));
-    print_calls(record_from(Edition::Two, first, line, 1));
+    print_calls(streams, record_from(Edition::Two, first, line, 1));
 }

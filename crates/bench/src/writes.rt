@@ -5,6 +5,8 @@ ghost use Rattle.std.specs.Prelude.{◌≤◌};
 use crate::case::MOST;
 use crate::print::FILL;
 use crate::{case, print};
+use console::output::Streams;
+use std::io::Write;
 use table::Edition;
 
 // How many of the bytes in front are printed: those of the header.
@@ -17,34 +19,52 @@ fn header_size(edition: Edition) -> usize
     }
 }
 
-fn print_written(edition: Edition, line: &[u8], words: &[u32], registers: &[u8]) {
+fn print_written(
+    streams: &mut Streams<impl Write, impl Write>,
+    edition: Edition,
+    line: &[u8],
+    words: &[u32],
+    registers: &[u8],
+) {
     let room = case::size(line, 3);
     let mut out = [FILL; MOST];
     let written = job_writer::write_job(edition, words, registers, &mut out[0..room]);
-    print::number(written.refusal as usize);
-    print::number(written.place);
-    print::number(written.size);
-    print::altered(&out);
-    print::front(&out, header_size(edition));
+    print::number(streams, written.refusal as usize);
+    print::number(streams, written.place);
+    print::number(streams, written.size);
+    print::altered(streams, &out);
+    print::front(streams, &out, header_size(edition));
 }
 
 // The register bytes are zeros.
-pub(crate) fn answer(line: &[u8]) {
+pub(crate) fn answer(streams: &mut Streams<impl Write, impl Write>, line: &[u8]) {
     let lines = case::size(line, 1);
     let bytes = case::size(line, 2);
     let mut words = [0u32; MOST];
     case::put_words(line, 4, &mut words);
     let registers = [0u8; MOST];
-    print_written(Edition::One, line, &words[0..lines], &registers[0..bytes]);
+    print_written(
+        streams,
+        Edition::One,
+        line,
+        &words[0..lines],
+        &registers[0..bytes],
+    );
 }
 
 // They are but for the first.
-pub(crate) fn answer_edition_2(line: &[u8]) {
+pub(crate) fn answer_edition_2(streams: &mut Streams<impl Write, impl Write>, line: &[u8]) {
     let lines = case::size(line, 1);
     let bytes = case::size(line, 2);
     let mut words = [0u32; MOST];
     case::put_words(line, 5, &mut words);
     let mut registers = [0u8; MOST];
     registers[0] = case::byte(line, 4);
-    print_written(Edition::Two, line, &words[0..lines], &registers[0..bytes]);
+    print_written(
+        streams,
+        Edition::Two,
+        line,
+        &words[0..lines],
+        &registers[0..bytes],
+    );
 }

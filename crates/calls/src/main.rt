@@ -8,6 +8,8 @@ mod calls;
 mod lines;
 mod make;
 
-fn main() {
-    lines::answer_all();
+use console::output::standard;
+
+fn main(rt: HostRuntime) {
+    lines::answer_all(&rt, &mut rt.stdin(), &mut standard(&rt));
 }

@@ -2,68 +2,75 @@
 
 use crate::answers;
 use console::input::read_named;
-use console::output::say_unreadable;
+use console::output::{Streams, say_unreadable};
 use job_reader::BYTES_TO_READ;
 use row::ROW_SIZE;
 use script::decimal;
+use std::io::Write;
+use std::rt::Files;
 use unit_rules::Unit;
 
 // A fresh unit in place of the one there was, which is no call and has no answer.
-pub(crate) fn fresh() -> Unit {
-    answers::nothing();
+pub(crate) fn fresh(streams: &mut Streams<impl Write, impl Write>) -> Unit {
+    answers::nothing(streams);
     unit::fresh()
 }
 
-pub(crate) fn go(u: Unit) -> Unit {
+pub(crate) fn go(streams: &mut Streams<impl Write, impl Write>, u: Unit) -> Unit {
     let gone = unit::go(u);
-    answers::refusal(gone.refusal);
+    answers::refusal(streams, gone.refusal);
     gone.unit
 }
 
-pub(crate) fn cycle(u: Unit) -> Unit {
+pub(crate) fn cycle(streams: &mut Streams<impl Write, impl Write>, u: Unit) -> Unit {
     let cycled = unit::cycle(u);
-    answers::refusal(cycled.refusal);
+    answers::refusal(streams, cycled.refusal);
     cycled.unit
 }
 
 // A cycle with its row.
-pub(crate) fn row(u: Unit) -> Unit {
+pub(crate) fn row(streams: &mut Streams<impl Write, impl Write>, u: Unit) -> Unit {
     let mut text = [0u8; ROW_SIZE];
     let cycled = trace_row::cycle_with_row(u, &mut text, 0);
-    answers::row(cycled.refusal, &text);
+    answers::row(streams, cycled.refusal, &text);
     cycled.unit
 }
 
-pub(crate) fn run(u: Unit, words: &[u8]) -> Unit {
+pub(crate) fn run(streams: &mut Streams<impl Write, impl Write>, u: Unit, words: &[u8]) -> Unit {
     let budget = decimal(words);
     if !budget.known {
-        answers::unknown();
+        answers::unknown(streams);
         return u;
     }
     let ran = unit::run(u, budget.value);
-    answers::number(ran.refusal, ran.made as u64);
+    answers::number(streams, ran.refusal, ran.made as u64);
     ran.unit
 }
 
-fn load_file(u: Unit, file: &[u8]) -> Unit {
+fn load_file(streams: &mut Streams<impl Write, impl Write>, u: Unit, file: &[u8]) -> Unit {
     let loaded = unit::load(u, file);
-    answers::number(loaded.refusal, loaded.place as u64);
+    answers::number(streams, loaded.refusal, loaded.place as u64);
     loaded.unit
 }
 
 // The name is all that stands behind `load `, spaces too.
-pub(crate) fn load(u: Unit, name: &[u8]) -> Unit {
+pub(crate) fn load(
+    files: &impl Files,
+    streams: &mut Streams<impl Write, impl Write>,
+    u: Unit,
+    name: &[u8],
+) -> Unit {
     if name.len() == 0 {
-        answers::unknown();
+        answers::unknown(streams);
         return u;
     }
     let mut file = [0u8; BYTES_TO_READ];
-    let came = read_named(name, &mut file);
+    let came = read_named(files, name, &mut file);
     if came.failed {
-        answers::unreadable();
-        say_unreadable(name);
+        answers::unreadable(streams);
+        say_unreadable(streams, name);
         return u;
     }
     let size = came.size;
-    load_file(u, &file[..size])
+    load_file(streams, u, &file[..size])
 }

@@ -1,9 +1,2 @@
-pub mod Beside
-pub mod Buffered
-pub mod Handed
-pub mod Steps
 pub mod Theorems
-pub mod Thin
 pub mod Unique
-pub mod Walking
-pub mod Walks
