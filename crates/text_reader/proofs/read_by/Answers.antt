@@ -14,7 +14,11 @@ returns-then-line-ne0 c =
     c.refused-then-line-ne0.ensures
 
 pub overflow_add-at : goal.overflow_add-at
-overflow_add-at c = omega (arith, (loop-again c).within)
+overflow_add-at c =
+    omega (
+      arith,
+      (line_more c.loop-at.invariant c.loop-at-test.true c.if-n-eq64.false _ c.line_in-line.ensures c.if-line-ne0.false).within,
+    )
 
 pub loop-at-preserved : goal.loop-at-preserved
 loop-at-preserved c =

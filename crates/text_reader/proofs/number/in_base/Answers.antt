@@ -1,14 +1,10 @@
--- Carried by the laws of `Numbers`. The invariant: the value and the end, with the digits from there on, are those of the number.
-use Prim.Native.Nat.{◌-◌, ◌≤◌}
-use mathlib.Core.Path.{refl}
-use mathlib.Core.Logic.{⊎_elim}
-use native.Mathlib.Omega.{arith}
-use borrow.Author.Rules.{rules}
-use lib.ListN.{length}
+-- Carried by the laws of `Numbers`: the value and the end, with the digits from there on, are those of the number.
+use Rattle.std.proofs.Common.{arith}
 use Rattle.text_rules.specs.Number.{is_digit}
 use Rattle.text_rules.proofs.Fronts.{front_at_end}
-use Rattle.text_reader.proofs.Numbers.{NumberSoFar, number_more, number_ended, reaches_limit, base_most, times_base, all_read}
+use Rattle.text_reader.proofs.Numbers.{number_more, number_ended, reaches_limit, all_read}
 use Rattle.text_reader.proofs.number.in_base.Goals as goal
+use Rattle.text_reader.proofs.number.in_base.Goals.{else-loop-end-test, then-loop-end-test+then-d-base}
 
 pub returns-then-value-limit : goal.returns-then-value-limit
 returns-then-value-limit c =
@@ -28,6 +24,8 @@ judged-requires c =
       inv.0,
       inv.1,
       c.requires.1,
-      all_read inv.2
-          (⊎_elim (λ w. front_at_end (is_digit _) _ _ w.left) (λ w. number_ended inv.2 w.0.taken w.2.ensures w.3.taken) c.loop-end-test.branch),
+      all_read inv.2 (elim c.loop-end-test.branch [
+        else-loop-end-test w ↦ front_at_end (is_digit _) _ _ w.loop-end-test.false
+      | then-loop-end-test+then-d-base w ↦ number_ended inv.2 w.loop-end-test.true w.digit-d.ensures w.if-d-base.true
+      ]),
     )
