@@ -5,7 +5,7 @@
 ghost use Rattle.std.specs.Prelude.{◌+◌, ◌*◌, ◌≤◌, ◌≡◌, length};
 ghost use mathlib.Core.List.{flat_map};
 ghost use Rattle.buffer.specs.Front.{at_front};
-ghost use Rattle.job_rules.specs.Layout.{instructions_at, LARGEST, four_bytes, edition_bytes, header_bytes, encode};
+ghost use Rattle.job_rules.specs.Layout.{instructions_at, LARGEST as largest_job, four_bytes, edition_bytes, header_bytes, encode};
 ghost use Rattle.job_rules.specs.Write.{write_of};
 
 mod numbers;
@@ -24,7 +24,7 @@ pub const LARGEST: usize = 780;
 
 // The constant, by a contract.
 pub fn largest() -> usize
-    ensures { result ≡ LARGEST }
+    ensures { result ≡ largest_job }
 {
     LARGEST
 }
