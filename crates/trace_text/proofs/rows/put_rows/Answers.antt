@@ -31,13 +31,12 @@ pub loop-made-preserved : goal.loop-made-preserved
 loop-made-preserved c =
     let inv = c.loop-made.invariant in
     let next = c.loop-made-test.true in
-    let few = (well_made_says _ inv.0).few in
-    let size = c.out-1.given in (
+    let few = (well_made_says _ inv.0).few in (
       inv.0,
       inv.1,
       inv.2,
       omega (arith, next),
-      omega (arith, inv.4, size),
+      omega (arith, inv.4),
       more _ _ inv.5
           (turn _ few c.written-write.ensures
           (elim c.if-write.branch [ then-write w ↦ w.registers-is ∙ rw w.if-write.true | else-write w ↦ w.registers-is ∙ rw w.if-write.false ])
