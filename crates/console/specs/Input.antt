@@ -12,6 +12,7 @@ IsPrefixLen n xs = (n ≤ length xs) × (n ≡ length (take n xs))
 abbrev pub CameInto : Came → List ℕ → Type 0
 CameInto came room = IsPrefixLen came.size room × (came.failed ≡ true → came.size ≡ 0)
 
--- those bytes are the first that the input had left, and it has them left no more; where there is room for more, it had no more
+-- of an input that could be read: those bytes are the first that it had left, and it has them left no more; where there is room for more, it had no
+-- more
 abbrev pub CameFrom : Option (List ℕ) → Option (List ℕ) → Came → List ℕ → Type 0
 CameFrom before after came room = came.failed ≡ false → Consumes before after (take came.size room) × (came.size < length room → IsAtEnd after)

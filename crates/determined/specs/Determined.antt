@@ -41,9 +41,9 @@ pub record Determined
   pub asks_nothing : (κs : Lfts n) (a : Dens κs ps) (w : World) → AsksNothing w.𝓤 (requires κs a tt w)
   pub one_answer : OneAnswer (ended_of n ps r) Post
 
--- Its counterpart for a function that is walked by hand, as one over a struct lent by `&mut`: the checker generates no reading of such a contract,
--- only its clauses `C` at the signature `T`. So the reading is written out as `Post`, and `reads` says that the `ensures` is that fact and nothing
--- else. `g` is the contract's ghost value, which the caller chooses.
+-- Its counterpart for a function of which only the contract's clauses `C` are taken, at the signature `T`, as for those over a struct lent by `&mut`.
+-- So the reading is written out as `Post`, and `reads` says that the `ensures` is that fact and nothing else. `g` is the contract's ghost value, which
+-- the caller chooses.
 pub record Unique
     (T : Ended)
     (C : (M : Type 1) (𝓤 : Ura M) (𝓛 : Logic 𝓤) → (Memory → SProp 𝓤) → (Routine → Fun 𝓤) → Clauses 𝓤 T) : Type 2 where

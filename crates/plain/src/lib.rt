@@ -14,7 +14,7 @@ use crate::rows::{registers_of, rows_of};
 pub use plain_rules::{Executed, ExecutedProgram, ExecutedWord};
 use table::{Edition, refusal};
 
-// The literal of a struct with a field that is an array of arrays, and the read of that field: the two forms that are proved by hand.
+// An answer, whose file is an array of arrays; the read of that field stands below it.
 fn answer(refusal: u32, place: usize, file: [[u32; 4]; 32]) -> Executed
     ensures { result ≡ answer_of refusal place file }
 {

@@ -9,7 +9,7 @@ use Prim.Native.Nat.{◌+◌}
 use lib.Dec.{leb}
 use Rattle.row_rules.specs.Text.{row_size}
 use Rattle.unit_rules.specs.Sequence.{unit_after, made_unless, cycles_in}
-use Rattle.unit_rules.specs.Sequence.Call.{load as a-load, go as a-go, cycle as a-cycle, row as a_row, run as a-run}
+use Rattle.unit_rules.specs.Sequence.Call.{load as a_load, go as a_go, cycle as a_cycle, row as a_row, run as a_run}
 use Rattle.unit_rules.proofs.Demand3.{demand3_load_refused}
 use Rattle.unit_rules.proofs.Theorems as model
 use Rattle.trace_rules.proofs.Theorems as shown
@@ -23,15 +23,15 @@ use Rattle.unit_lent.specs.contracts.run as run
 -- ---- the unit afterwards
 
 pub load_as_a_call : (κs : Lfts 2) (a : Args load.signature κs) (r : Res load.signature κs) (s : AtExit load.ended κs)
-    → load_promise κs a r s → s.0.now ≡ unit_after (a-load a.1.0.now) a.0.now
+    → load_promise κs a r s → s.0.now ≡ unit_after (a_load a.1.0.now) a.0.now
 load_as_a_call κs a r s p = ap (λ z. z.unit) p
 
 pub go_as_a_call : (κs : Lfts 1) (a : Args go.signature κs) (r : Res go.signature κs) (s : AtExit go.ended κs)
-    → go_promise κs a r s → s.0.now ≡ unit_after a-go a.0.now
+    → go_promise κs a r s → s.0.now ≡ unit_after a_go a.0.now
 go_as_a_call κs a r s p = ap (λ z. z.unit) p
 
 pub cycle_as_a_call : (κs : Lfts 1) (a : Args cycle.signature κs) (r : Res cycle.signature κs) (s : AtExit cycle.ended κs)
-    → cycle_promise κs a r s → (s.0.now ≡ unit_after a-cycle a.0.now) × (made_unless r ≡ cycles_in a-cycle a.0.now)
+    → cycle_promise κs a r s → (s.0.now ≡ unit_after a_cycle a.0.now) × (made_unless r ≡ cycles_in a_cycle a.0.now)
 cycle_as_a_call κs a r s p = (ap (λ z. z.unit) p, ap (λ z. made_unless z.refusal) p)
 
 pub cycle_with_row_as_a_call : (κs : Lfts 2) (a : Args cycle_with_row.signature κs) (r : Res cycle_with_row.signature κs) (s : AtExit cycle_with_row.ended κs)
@@ -42,7 +42,7 @@ cycle_with_row_as_a_call κs a r s p =
     (ap (λ z. z.0.unit) p ∙ call.0, ap (λ z. made_unless z.0.refusal) p ∙ call.1)
 
 pub run_as_a_call : (κs : Lfts 1) (a : Args run.signature κs) (r : Res run.signature κs) (s : AtExit run.ended κs)
-    → run_promise κs a r s → (s.0.now ≡ unit_after (a-run a.1.0) a.0.now) × (r.made ≡ cycles_in (a-run a.1.0) a.0.now)
+    → run_promise κs a r s → (s.0.now ≡ unit_after (a_run a.1.0) a.0.now) × (r.made ≡ cycles_in (a_run a.1.0) a.0.now)
 run_as_a_call κs a r s p = (ap (λ z. z.unit) p, ap (λ z. z.made) p)
 
 -- ---- after a refusal

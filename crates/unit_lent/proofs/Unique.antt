@@ -1,5 +1,5 @@
 -- For every public function: it asks nothing, and no second answer and no second unit or buffer afterwards fits, since its contract is one equation
--- and has no `requires`. A function that is walked has no generated reading of its contract: each is written out here, and `reads` ties it to the
+-- and has no `requires`. Each reading of a contract is written out here, and `reads` ties it to the
 -- contract.
 -- Assumes nothing.
 use mathlib.Core.Path.{◌∙◌, ◌≡◌, refl, sym}

@@ -1,5 +1,5 @@
 -- Calls on a well-made unit: those of `cycle` that follow a go are cycles, and so are any calls until the next go or accepted load; a unit that has not gone rests; every call
--- leaves a well-made record. Carried by `drained_after` and `goes_on`.
+-- leaves a well-made record. Carried by `drained_after` and `goes_on_lem`.
 -- Assumes nothing.
 use Rattle.unit_rules.proofs.Shared.{ℕ, zero, suc, ◌+◌, ◌-◌, ◌≤◌, ◌<◌, min, ◌≡◌, refl, sym, ap, ◌∙◌, Bool, true, false, List, []}
 use Rattle.unit_rules.proofs.Shared.{◌∷◌, add-zero, arith, eqb-true, eqb-false, lt-leb, le-leb, leb-true, leb-false, eqb, leb, DRAINED}

@@ -3,7 +3,7 @@
 -- Assumes nothing.
 use Rattle.unit_rules.proofs.Shared.{ℕ, zero, suc, ◌+◌, ◌-◌, ◌≤◌, ◌<◌, min, ◌≡◌, refl, sym, ap, ◌∙◌, Bool, true, false, ◌&&◌, and-false, false≢true, List, add-one}
 use Rattle.unit_rules.proofs.Shared.{arith, lt-ltb, le-ltb, le-leb, lt-leb, leb-true, leb-false, ltb-true, ltb-false, eqb-true, eqb-false}
-use Rattle.unit_rules.proofs.Shared.{ne_eqb, eqb, ltb, leb, leb·zero, Register, IfId, IdEx, ExWb, Program, Unit, after_ex, after_id, after_if, Edition}
+use Rattle.unit_rules.proofs.Shared.{ne_eqb, eqb, ltb, leb, leb-zero, Register, IfId, IdEx, ExWb, Program, Unit, after_ex, after_id, after_if, Edition}
 use Rattle.unit_rules.proofs.Shared.{count_after, cycle_of, cycles_of, fetched_in, in_decoded, in_executed, is_empty, all_empty, drained_of, last_of, in_flight_of, unit_with, add-zero}
 use Rattle.alu_rules.proofs.Integers.{either}
 use Rattle.unit_rules.proofs.Shared.IF/ID
@@ -124,7 +124,7 @@ whereabouts n c = go (leb (n + 3) c) (ltb c n) (eqb c n) (eqb c (n + 1)) refl re
 
 all_empty_lem : (edition : Edition) (words : List ℕ) (n c : ℕ) → emptied (record { words = words; n = record { 0 = n }; edition = edition }) c ≡ leb (last_of n) c
 unfolding emptied
-all_empty_lem edition words zero c = simp (no_lines, leb·zero)
+all_empty_lem edition words zero c = simp (no_lines, leb-zero)
   where
     no_lines : (k : ℕ) → is_empty (fetched_in (record { words = words; n = record { 0 = 0 }; edition = edition }) k) ≡ true
     no_lines zero = refl

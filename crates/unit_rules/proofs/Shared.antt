@@ -10,7 +10,7 @@ pub use native.Mathlib.Omega.{arith}
 pub use native.Mathlib.Nat.{add-zero, zero-add, le_refl, add-suc, add_assoc}
 pub use borrow.Author.Tests.{eqb-true, eqb-false, ltb-true, ltb-false, eq-eqb, ne_eqb, lt-leb, le-leb, leb-true, leb-false, lt-ltb, le-ltb, not-false}
 pub use borrow.Author.Rules.{rules}
-pub use lib.Dec.{eqb, ltb, leb, leb-zero as leb·zero}
+pub use lib.Dec.{eqb, ltb, leb, leb-zero}
 pub use lib.ListN.{get_or, set, take, length, length-set, length-take, drop, length-append, length-replicate, replicate, length-drop}
 pub use lib.Seq.{get_or-set_same, get_or-set_other, get_or-take, take_all, length-take-le, take-append_seam, take_at, sets-eq}
 pub use Rattle.register.specs.declared.Register.{Register}

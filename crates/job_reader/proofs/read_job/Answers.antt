@@ -1,4 +1,4 @@
--- Carried by `refused_header` and `counts_fit`: the two cases of the header.
+-- Carried by `counts_fit`: the counts of an accepted header.
 use mathlib.Core.Path.{sym, ◌∙◌}
 use Rattle.job_rules.proofs.Refusals.{counts_fit}
 use Rattle.job_reader.proofs.read_job.Goals as goal

@@ -1,4 +1,4 @@
--- Carried by `one_line`.
+-- Carried by `one_line_lem`.
 use mathlib.Core.Path.{ap, ◌∙◌}
 use lib.ListN.{get_or}
 use Rattle.plain_rules.specs.declared.ExecutedProgram.{ExecutedProgram}

@@ -1,4 +1,4 @@
--- Carried by `next_set`, `set_and_cleared` and `set_alone`. The invariant: the registers before i are set.
+-- The invariant: the registers before i are set.
 use Rattle.unit_rules.proofs.Shared.{◌-◌, ◌≤◌, ◌≡◌, registers_set}
 use Rattle.unit.proofs.begin.set_registers.Given as goal
 

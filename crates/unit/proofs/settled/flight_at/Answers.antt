@@ -1,4 +1,4 @@
--- Carried by `all_told`: what is read and made in the registers is what a settled unit holds.
+-- Carried by `line_in_range`.
 use Rattle.unit.proofs.Flight.{line_in_range}
 use Rattle.unit.proofs.settled.flight_at.Goals as goal
 
