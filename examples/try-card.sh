@@ -34,31 +34,34 @@ export TRY
 own_path=$PATH
 repository="$TRY/the repository"
 mkdir -p "$repository/docs" "$TRY/kit/bin" "$TRY/elsewhere" || exit 1
-cp -R "$here/crates.txt" "$here/crates" "$here/card" "$here/examples" "$repository" || exit 1
+cp -R "$here/crates.txt" "$here/card" "$here/examples" "$repository" || exit 1
 cd "$repository" || exit 1
+# the crates without what rt keeps in them, which is large
+for part in "$here"/crates/*/*; do
+    to=${part#"$here/"}
+    [ "${to##*/}" != out ] || continue
+    mkdir -p "${to%/*}" && cp -R "$part" "$to" || exit 1
+done
 
 # ---- the stand-ins
 
-# What rt would prove for a program, found in another way than the command does: names are added until none is missing.
-crates_of() {
-    all=" $1 " before=''
-    while [ "$all" != "$before" ]; do
-        before=$all
-        for name in $all; do
-            needs=$(sed -n "s/^$name://p" crates.txt)
-            for dep in $needs; do
-                case $all in *" $dep "*) continue ;; esac
-                if grep -q "^$dep:" crates.txt; then all="$all$dep "; fi
-            done
-        done
+# What rt proves for a program, in its order: the libraries that a crate names, one after another, each behind those that it names itself, and then the crate.
+walk() {
+    case $walked in *" $1 "*) return ;; esac
+    walked="$walked$1 "
+    needs=$(sed -n "s/^$1://p" crates.txt)
+    for dep in $needs; do
+        if grep -q "^$dep:" crates.txt; then walk "$dep"; fi
     done
-    # the program is proved last
-    for name in $all; do [ "$name" = "$1" ] || echo "$name"; done
     echo "$1"
+}
+crates_of() {
+    walked=' '
+    walk "$1"
 }
 for program in trace traces assemble; do crates_of "$program" >"$TRY/crates.$program"; done
 # a library among them, far from the program, whose sources the cases change
-TRY_LIBRARY="crates/$(tail -n 2 "$TRY/crates.trace" | head -n 1)"
+TRY_LIBRARY="$repository/crates/$(head -n 1 "$TRY/crates.trace")"
 export TRY_LIBRARY
 total=$(grep -c . "$TRY/crates.trace")
 total_of_traces=$(grep -c . "$TRY/crates.traces")
@@ -67,7 +70,8 @@ echo 'stand-in 1' >"$TRY/version"
 : >"$TRY/calls"
 : >"$TRY/runs"
 
-# The files fails, slow and meanwhile in the temporary folder make it fail, take its time, and edit a source while it builds.
+# The files fails, slow and meanwhile in the temporary folder make it fail, take its time, and edit a source while it builds. Where it fails, the program is there none the
+# less, as that of an earlier build is where rt fails.
 cat >"$TRY/kit/bin/rt" <<'END'
 #!/bin/sh
 # whoever calls it must not leave it the job to read
@@ -76,36 +80,44 @@ if [ "$1" = version ]; then
     cat "$TRY/version"
     exit
 fi
-echo "$* in $(pwd -P)" >>"$TRY/calls"
+at=$(pwd -P)
+name=${at##*/}
+echo "$* in $at" >>"$TRY/calls"
 build=$(grep -c . "$TRY/calls")
-took='1 s'
-[ ! -d target/rlib ] || took='unchanged since it was last proved'
-mkdir -p target/bin target/rlib
-sed "s/BUILD/$build/" "$TRY/program" >"target/bin/$2"
-chmod +x "target/bin/$2"
+mkdir -p out
+sed "s/BUILD/$build/" "$TRY/program" >"out/$name"
+chmod +x "out/$name"
 [ ! -f "$TRY/slow" ] || sleep 3
-while read -r crate; do
-    [ "$crate" != "$2" ] || took='1 s'
-    if [ -f "$TRY/fails" ] && [ "$crate" = "$2" ]; then
-        echo "rt: $2 proved, and its run FAILED (1 s)"
-        echo "rt: FAILED: $2"
-        exit 1
+{
+    # of a library that has not changed there is no line
+    while read -r crate; do
+        if [ "$crate" != "$name" ]; then
+            [ ! -d "../$crate/out/rlib" ] || continue
+            mkdir -p "../$crate/out/rlib"
+        fi
+        echo "rt: chose --jobs 2 for $crate"
+        if [ -f "$TRY/fails" ] && [ "$crate" = "$name" ]; then
+            echo 'logic=not-proved'
+            echo 'rattle build: nothing was built, since only a proved crate is built'
+            exit 1
+        fi
+        echo "fn $crate::some: proved"
+        echo 'logic=proved functions=1'
+    done <"$TRY/crates.$name"
+    if [ -f "$TRY/meanwhile" ]; then
+        rm "$TRY/meanwhile"
+        echo '// edited meanwhile' >>"$TRY_LIBRARY/src/lib.rt"
     fi
-    echo 'logic=proved functions=0'
-    echo "rt: $crate proved ($took)"
-done <"$TRY/crates.$2"
-if [ -f "$TRY/meanwhile" ]; then
-    rm "$TRY/meanwhile"
-    echo '// edited meanwhile' >>"$TRY_LIBRARY/src/lib.rt"
-fi
-echo "rt: $2 ran, and wrote what its file 'stdout' has (0 s)"
-echo "rt: ok, $(grep -c . "$TRY/crates.$2") crates proved"
+    echo "linked target=x86_64-unknown-linux-gnu files=out/$name.o"
+    echo "rt: running out/$name; to give it other input, run that file yourself"
+} >&2
+TRY_RUNS=runs-by-rt exec "out/$name" </dev/null
 END
 
 # Says which build it is, and then the names that it is given or its standard input; a case may have it say both, or more, or die.
 cat >"$TRY/program" <<'END'
 #!/bin/sh
-echo run >>"$TRY/runs"
+echo run >>"$TRY/${TRY_RUNS-runs}"
 echo 'build BUILD'
 [ $# -eq 0 ] || printf 'name %s\n' "$@"
 [ $# -gt 0 ] && [ -z "${TRY_READS-}" ] || cat 2>/dev/null || echo UNREADABLE >&2
@@ -115,7 +127,7 @@ echo 'build BUILD'
 END
 chmod +x "$TRY/kit/bin/rt" "$TRY/program"
 PATH="$TRY/kit/bin:$PATH"
-unset RATTLE_HOME TRY_OUT TRY_ERR TRY_DIES TRY_READS
+unset TRY_OUT TRY_ERR TRY_DIES TRY_READS TRY_RUNS
 
 # ---- how a case is told
 
@@ -235,7 +247,7 @@ begin "the first use builds and counts from 1 of $total to $total of $total"
 run ./card trace "$TRY/job"
 gives 0; out_is "$(newest)\na job\n"; builds 1; runs 1
 err_has 'proving and building trace, once; this takes some minutes'
-grep -qxF "check trace in $(pwd -P)" "$TRY/calls" || not 'rt check trace was not run at the root'
+grep -qxF "run in $(pwd -P)/crates/trace" "$TRY/calls" || not 'rt run was not run in the folder of trace'
 k=0
 while [ "$k" -le "$total" ]; do
     echo "$k of $total"
@@ -305,7 +317,7 @@ begin 'a build that fails after a good one: status 3, the log is named, nothing 
 echo '// wrong' >>"$TRY_LIBRARY/src/lib.rt"
 run ./card trace "$TRY/job"
 gives 3; out_is ''; err_has 'could not be built'; err_has "$repository/target/card/trace.log"; builds 1; runs 0
-grep -qx 'rt: FAILED: trace' target/card/trace.log || not 'the log does not say what rt said'
+grep -qx 'logic=not-proved' target/card/trace.log || not 'the log does not say what rt said'
 [ ! -e target/card/trace ] || not 'the program is kept'
 [ ! -e target/card/trace.stamp ] || not 'the stamp is kept'
 end

@@ -2,27 +2,26 @@
      driver time ROUNDS [NAME]            a line for each measurement: name, set, ns a job of ours and of the peer, each the least of so many interleaved rounds
      driver check                         whether both sides give the same answers
      driver call NAME SET JOBS TIMES      NAME with a hyphen before it is the peer's
-   The Rattle ABI: what is no scalar goes by pointer, a slice as a pointer to pointer and length, an aggregate answer to a pointer that comes first. */
+   The Rattle ABI: what is no scalar goes by pointer, a slice as a pointer and a length, an aggregate answer to a pointer that comes first. */
 typedef unsigned char u8; typedef unsigned short u16; typedef unsigned u32; typedef unsigned long u64; typedef unsigned long usize;
 struct timespec { long s, ns; };
 int printf(const char *, ...); int strcmp(const char *, const char *); int memcmp(const void *, const void *, usize);
 long atol(const char *); int clock_gettime(int, struct timespec *);
-typedef struct { const void *at; usize size; } Slice;
 
 /* the product, by the names that the module has */
 #define OURS(f) __asm__("speed::" f)
-void run_value(void *unit, Slice *file) OURS("run_value");
-u32 run_lent(void *unit, Slice *file) OURS("run_lent");
-u32 start_lent(void *unit, Slice *file) OURS("start_lent");
-void started_value(void *unit, Slice *file) OURS("started_value");
-void cycles_value(void *unit, Slice *file) OURS("cycles_value");
-u32 cycles_lent(void *unit, Slice *file) OURS("cycles_lent");
-u32 rows_lent(void *unit, Slice *file, Slice *out) OURS("rows_lent");
+void run_value(void *unit, const void *file, usize) OURS("run_value");
+u32 run_lent(void *unit, const void *file, usize) OURS("run_lent");
+u32 start_lent(void *unit, const void *file, usize) OURS("start_lent");
+void started_value(void *unit, const void *file, usize) OURS("started_value");
+void cycles_value(void *unit, const void *file, usize) OURS("cycles_value");
+u32 cycles_lent(void *unit, const void *file, usize) OURS("cycles_lent");
+u32 rows_lent(void *unit, const void *file, usize, void *out, usize) OURS("rows_lent");
 void registers(void *out, void *unit) OURS("registers");
-void plain_all(void *rows, Slice *words, void *file, Slice *marks) OURS("plain_all");
-usize report_text(Slice *file, Slice *out) OURS("report_text");
-void read_file(void *job, Slice *file) OURS("read");
-usize write_file(Slice *words, Slice *registers, Slice *out) OURS("write");
+void plain_all(void *rows, const void *words, usize, void *file, void *marks, usize) OURS("plain_all");
+usize report_text(const void *file, usize, void *out, usize) OURS("report_text");
+void read_file(void *job, const void *file, usize) OURS("read");
+usize write_file(const void *words, usize, const void *registers, usize, void *out, usize) OURS("write");
 /* the peer */
 u32 peer_run(void *, const u8 *, usize), peer_start(void *, const u8 *, usize), peer_cycles(void *, const u8 *, usize), peer_plain(void *, const u32 *, usize, const void *, void *);
 usize peer_report(const u8 *, usize, void *), peer_size(void), peer_write(const u32 *, usize, const u8 *, usize, void *, usize);
@@ -68,19 +67,17 @@ static void make(int s, int count) {
 static u8 ours_unit[4096] __attribute__((aligned(64))), peer_unit[4096] __attribute__((aligned(64)));
 static u8 text[5233], text2[5233], marks[64], marks2[64], file_out[SIZE], file_out2[SIZE]; static u32 rows[32][4], rows2[32][4];
 static volatile u64 sink;
-static Slice slice(const void *at, usize n) { Slice s = { at, n }; return s; }
-#define F Slice f = slice(job, SIZE)
-static void o_run(u8 *job) { F; run_value(ours_unit, &f); }
-static void o_runl(u8 *job) { F; sink += run_lent(ours_unit, &f); }
-static void o_start(u8 *job) { F; started_value(ours_unit, &f); }
-static void o_startl(u8 *job) { F; sink += start_lent(ours_unit, &f); }
-static void o_cyc(u8 *job) { F; cycles_value(ours_unit, &f); }
-static void o_cycl(u8 *job) { F; sink += cycles_lent(ours_unit, &f); }
-static void o_rows(u8 *job) { F; Slice o = slice(text, sizeof text); sink += rows_lent(ours_unit, &f, &o); }
-static void o_plain(u8 *job) { Slice w = slice(job + 8, 64); Slice m = slice(marks, sizeof marks); plain_all(rows, &w, job + 264, &m); }
-static void o_report(u8 *job) { F; Slice o = slice(text, sizeof text); sink += report_text(&f, &o); }
-static void o_read(u8 *job) { F; read_file(ours_unit, &f); }
-static void o_write(u8 *job) { Slice w = slice(job + 8, 64), r = slice(job + 264, 512), o = slice(file_out, SIZE); sink += write_file(&w, &r, &o); }
+static void o_run(u8 *job) { run_value(ours_unit, job, SIZE); }
+static void o_runl(u8 *job) { sink += run_lent(ours_unit, job, SIZE); }
+static void o_start(u8 *job) { started_value(ours_unit, job, SIZE); }
+static void o_startl(u8 *job) { sink += start_lent(ours_unit, job, SIZE); }
+static void o_cyc(u8 *job) { cycles_value(ours_unit, job, SIZE); }
+static void o_cycl(u8 *job) { sink += cycles_lent(ours_unit, job, SIZE); }
+static void o_rows(u8 *job) { sink += rows_lent(ours_unit, job, SIZE, text, sizeof text); }
+static void o_plain(u8 *job) { plain_all(rows, job + 8, 64, job + 264, marks, sizeof marks); }
+static void o_report(u8 *job) { sink += report_text(job, SIZE, text, sizeof text); }
+static void o_read(u8 *job) { read_file(ours_unit, job, SIZE); }
+static void o_write(u8 *job) { sink += write_file(job + 8, 64, job + 264, 512, file_out, SIZE); }
 static void p_run(u8 *job) { sink += peer_run(peer_unit, job, SIZE); }
 static void p_start(u8 *job) { sink += peer_start(peer_unit, job, SIZE); }
 static void p_cyc(u8 *job) { sink += peer_cycles(peer_unit, job, SIZE); }
