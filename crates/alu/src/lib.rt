@@ -10,6 +10,7 @@ ghost use Rattle.table.specs.Operation.Operation.{nop};
 ghost use Rattle.alu_rules.specs.Across.{unmarked, multiplied};
 ghost use Rattle.alu_rules.specs.Result.{result_of, outcome_of};
 
+mod across;
 pub mod halfwords;
 mod marks;
 pub mod multiply;
@@ -43,6 +44,7 @@ pub fn multiply_outcome(w: u32, rs1: Register, rs2: Register, rs3: Register) -> 
 }
 
 // A word of a short code, its value alone: to gather eight marks costs two thirds of their sums, and a run needs none. None of the sixteen has a third operand.
+#[tactic(auto, unfolding(alu_rules::specs::Result::result_of))]
 pub fn short_value(w: u32, rs1: Register, rs2: Register) -> Register
     ensures { result ≡ (result_of (get_or short_rows (code_of w) nop) w rs1 rs2 zero_register).value }
 {
@@ -68,6 +70,7 @@ pub fn short_value(w: u32, rs1: Register, rs2: Register) -> Register
 }
 
 // A word of a short code. AHS and SFHS alone mark.
+#[tactic(auto, using(alu_rules::proofs::Rows::unmarked_row), unfolding(alu_rules::specs::Result::result_of))]
 pub fn short_outcome(w: u32, rs1: Register, rs2: Register) -> Outcome
     ensures { result ≡ result_of (get_or short_rows (code_of w) nop) w rs1 rs2 zero_register }
 {
@@ -80,6 +83,7 @@ pub fn short_outcome(w: u32, rs1: Register, rs2: Register) -> Outcome
 }
 
 // What a word gives. An operand that the table says is not read has no effect.
+#[tactic(auto, using(alu_rules::proofs::Rows::li_result, alu_rules::proofs::Rows::multiply_result, alu_rules::proofs::Rows::short_result))]
 pub fn result(w: u32, rs1: Register, rs2: Register, rs3: Register) -> Outcome
     ensures { result ≡ outcome_of w rs1 rs2 rs3 }
 {

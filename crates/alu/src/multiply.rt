@@ -1,43 +1,23 @@
 // Multiply-add and multiply-subtract across registers: long, subtract and high are the three bits that choose.
 
 ghost use Rattle.std.specs.Prelude.{◌≡◌};
-ghost use Rattle.register.specs.Halves.{half};
-ghost use Rattle.alu_lanes.specs.Clamped.{clamped32, clamped64};
+ghost use Rattle.alu_lanes.specs.Clamped.{clamped_lane, in_numbers};
 ghost use Rattle.alu_rules.specs.Across.{clamped_words, clamped_longs, multiply_lane, multiplied};
 
 use crate::marks::{mark_of_longs, mark_of_words};
-use alu_lanes::clamped;
-use alu_lanes::clamped::{Clamped32, Clamped64};
+use alu_lanes::clamped::{Clamped, Multiplied};
 use alu_rules::Outcome;
 use register::Register;
-use register::halves::{half_of_word, join_words};
+use register::halves::Halved;
 
-fn half_of_long(l: u64, high: bool) -> u32
-    ensures { result ≡ half 32 high l }
+// One lane, a word or a long: the same half of rs3 and of rs2.
+fn multiply_lane<W: Multiplied>(subtract: bool, high: bool, rs1: W, rs2: W, rs3: W) -> Clamped<W>
+    ensures { in_numbers W.number result ≡ clamped_lane W.width (multiply_lane W.Half.width subtract high (W.number rs1) (W.number rs2) (W.number rs3)) }
 {
-    if high {
-        (l / 0x1_0000_0000) as u32
-    } else {
-        (l % 0x1_0000_0000) as u32
-    }
+    W::multiply(subtract, rs1, rs3.half(high), rs2.half(high))
 }
 
-fn multiply_word(subtract: bool, high: bool, rs1: u32, rs2: u32, rs3: u32) -> Clamped32
-    ensures { result ≡ clamped32 (multiply_lane 16 subtract high rs1 rs2 rs3) }
-{
-    let a = half_of_word(rs3, high);
-    let b = half_of_word(rs2, high);
-    clamped::multiply_16(subtract, rs1, a, b)
-}
-
-fn multiply_long(subtract: bool, high: bool, rs1: u64, rs2: u64, rs3: u64) -> Clamped64
-    ensures { result ≡ clamped64 (multiply_lane 32 subtract high rs1 rs2 rs3) }
-{
-    let a = half_of_long(rs3, high);
-    let b = half_of_long(rs2, high);
-    clamped::multiply_32(subtract, rs1, a, b)
-}
-
+// A register has four words and two longs, so they are put together apart.
 fn multiply_words(
     subtract: bool,
     high: bool,
@@ -47,10 +27,11 @@ fn multiply_words(
 ) -> Outcome
     ensures { result ≡ clamped_words (multiply_lane 16 subtract high) rs1 rs2 rs3 }
 {
-    let w0 = multiply_word(subtract, high, rs1.w0, rs2.w0, rs3.w0);
-    let w1 = multiply_word(subtract, high, rs1.w1, rs2.w1, rs3.w1);
-    let w2 = multiply_word(subtract, high, rs1.w2, rs2.w2, rs3.w2);
-    let w3 = multiply_word(subtract, high, rs1.w3, rs2.w3, rs3.w3);
+    let lane = |x: u32, y: u32, z: u32| multiply_lane(subtract, high, x, y, z);
+    let w0 = lane(rs1.w0, rs2.w0, rs3.w0);
+    let w1 = lane(rs1.w1, rs2.w1, rs3.w1);
+    let w2 = lane(rs1.w2, rs2.w2, rs3.w2);
+    let w3 = lane(rs1.w3, rs2.w3, rs3.w3);
     Outcome {
         value: Register {
             w0: w0.value,
@@ -71,26 +52,26 @@ fn multiply_longs(
 ) -> Outcome
     ensures { result ≡ clamped_longs (multiply_lane 32 subtract high) rs1 rs2 rs3 }
 {
-    let l1 = multiply_long(
+    let l1 = multiply_lane(
         subtract,
         high,
-        join_words(rs1.w3, rs1.w2),
-        join_words(rs2.w3, rs2.w2),
-        join_words(rs3.w3, rs3.w2),
+        u64::join(rs1.w3, rs1.w2),
+        u64::join(rs2.w3, rs2.w2),
+        u64::join(rs3.w3, rs3.w2),
     );
-    let l0 = multiply_long(
+    let l0 = multiply_lane(
         subtract,
         high,
-        join_words(rs1.w1, rs1.w0),
-        join_words(rs2.w1, rs2.w0),
-        join_words(rs3.w1, rs3.w0),
+        u64::join(rs1.w1, rs1.w0),
+        u64::join(rs2.w1, rs2.w0),
+        u64::join(rs3.w1, rs3.w0),
     );
     Outcome {
         value: Register {
-            w0: half_of_long(l0.value, false),
-            w1: half_of_long(l0.value, true),
-            w2: half_of_long(l1.value, false),
-            w3: half_of_long(l1.value, true),
+            w0: l0.value.half(false),
+            w1: l0.value.half(true),
+            w2: l1.value.half(false),
+            w3: l1.value.half(true),
         },
         mark: mark_of_longs(l0.marked, l1.marked),
     }

@@ -2,5 +2,4 @@ pub mod Words
 pub mod Masks
 pub mod Integers
 pub mod Signed
-pub mod Equality
 pub mod Unique

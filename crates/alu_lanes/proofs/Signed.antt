@@ -1,57 +1,29 @@
 -- Signed numbers, once over the width k. With its top bit turned, x is the natural number that the signed number plus 2^(k-1) is. So the signed number
--- is `sub_ℕ (turned k x) (2 ^ (k - 1))`, sums and products are such differences again, and what wraps is off by 2^k or not at all.
+-- is `sub_ℕ (turned k x) (2 ^ (k - 1))`, sums are such differences again, and what wraps is off by 2^k or not at all. It is also what std's casts say.
 -- Assumes nothing.
-use Rattle.std.proofs.Common.{◌≡◌, ℕ, suc, ◌+◌, ◌-◌, ◌*◌, ◌%◌, ◌^◌, ◌<◌, ◌≤◌, Bool, true, false, cond, ◌||◌, ltb, ℤ, negsuc, ◌+ℤ◌, ◌-ℤ◌, ◌*ℤ◌, neg_ℤ, sym, refl, ap, ◌∙◌, ap₂, mod-eq_of_lt, mul_comm, add-mul, mul-le-mul_left, mul-lt-mul_of_pos_right, mul-add, arith, pow_pos, pow-add, ltb-false, ltb-true, le-ltb, lt-ltb}
+use Rattle.std.proofs.Common.{◌≡◌, ℕ, suc, ◌+◌, ◌-◌, ◌*◌, ◌%◌, ◌^◌, ◌<◌, ◌≤◌, Bool, true, false, cond, ◌||◌, ltb, ℤ, negsuc, ◌+ℤ◌, ◌*ℤ◌, neg_ℤ, sym, refl, ap, ◌∙◌, ap₂, mod-eq_of_lt, arith, pow_pos, ltb-false, ltb-true, le-ltb, lt-ltb}
 use native.Mathlib.Nat.{mod-eq-sub-mod, mod-add-mod}
 use lib.Bits.{bit_xor, xor_block, xor_zero_r}
 use lib.IntN.{sub_ℕ}
 use lib.Signed.{lt_z}
+use mir.Syntax.{Width}
+use mir.Val.{bits as width_of, hbits, to_z, of_z, SFits}
+use Rattle.std.proofs.lemmas.Int.{to_z-of_z}
 use Rattle.alu_rules.specs.Width.{signed, bits, greatest, within, clamped, is_marked}
-use Rattle.alu_rules.specs.Lane.{multiply_add, multiply_subtract}
 use Rattle.alu_lanes.specs.Sign.{exact_sum, sign_lost}
+use Rattle.alu_lanes.specs.Clamped.{clamped_lane, in_numbers}
 use Rattle.alu_rules.proofs.Integers.{either, sub_pos, sub_neg, neg_pos}
 use Rattle.alu_rules.proofs.Clamped.{double, bounds, signed_low, signed_high, inside_pos, inside_neg, above, beneath}
-use Rattle.register.proofs.Joined.{product_fits}
-use Rattle.alu_lanes.proofs.Integers.{sub_same, pos_as, sub_sum, sub_swap, sub_times, sub_order}
+use Rattle.alu_lanes.proofs.Integers.{sub_same, pos_as, sub_sum, sub_swap}
 
 -- x with the top one of its k bits turned
-abbrev pub turned : ℕ → ℕ → ℕ
+abbrev turned : ℕ → ℕ → ℕ
 turned k x = bit_xor x (2 ^ (k - 1))
 
 -- v is z clamped to k bits, and b says whether that changes it
-pub record Clamps (k : ℕ) (z : ℤ) (v : ℕ) (b : Bool) : Type 0 where
-  pub value_is : v ≡ clamped k z
-  pub mark_is : b ≡ is_marked k z
-
--- what the code of a clamped sum has, from its answer back to its operands: all of it stands in the contracts of its calls, where `search` finds it
-pub record Added (k : ℕ) (exact : ℤ) (value : ℕ) (marked : Bool) : Type 0 where
-  pub limit : ℕ
-  pub sum : ℕ
-  pub value_picked : value ≡ cond marked limit sum
-  -- x, z and the sum are compared with their top bits: whether each is below, and so not negative
-  pub x : ℕ
-  pub z : ℕ
-  pub x_top : ℕ
-  pub z_top : ℕ
-  pub sum_top : ℕ
-  pub signs : marked ≡ sign_lost (ltb x x_top) (ltb z z_top) (ltb sum sum_top)
-  pub most : ℕ
-  pub least : ℕ
-  pub limit_picked : limit ≡ cond (ltb x x_top) most least
-  pub first : ℕ
-  pub carry : ℕ
-  pub then_added : sum ≡ (first + carry) % 2 ^ k
-  pub first_added : first ≡ (x + z) % 2 ^ k
-  -- y and 0, or y with every bit turned and 1
-  pub minus : Bool
-  pub carry_picked : carry ≡ cond minus 1 0
-  pub y : ℕ
-  pub ones : ℕ
-  pub z_picked : z ≡ cond minus (ones - y) y
-  pub x_fits : x < 2 ^ k
-  pub y_fits : y < 2 ^ k
-  pub sum_fits : sum < 2 ^ k
-  pub is_exact : exact ≡ exact_sum k minus x y
+record Clamps (k : ℕ) (z : ℤ) (v : ℕ) (b : Bool) : Type 0 where
+  value_is : v ≡ clamped k z
+  mark_is : b ≡ is_marked k z
 
 -- v modulo m, where v is below m + m: m is taken away once, or not at all
 once : (m v : ℕ) {P : Type 0} → v < m + m → (v % m ≡ v → P) → (v % m + m ≡ v → P) → P
@@ -59,6 +31,11 @@ once m v h same less =
     either v m
     (λ l. same (mod-eq_of_lt l))
     (λ l. less (ap (λ (n : ℕ). n + m) (mod-eq-sub-mod l ∙ mod-eq_of_lt (omega arith)) ∙ omega arith))
+
+-- the number of the one that is taken
+taken : {L : Type 0} (number : L → ℕ) (t : Bool) (x y : L) → number (cond t x y) ≡ cond t (number x) (number y)
+taken number true x y = refl
+taken number false x y = refl
 
 module _ (k : ℕ) (some : 0 < k) where
   -- ---- the top bit turned
@@ -77,21 +54,12 @@ module _ (k : ℕ) (some : 0 < k) where
       ap₂ bit_xor (sym e) (sym f) ∙ xor_block (k - 1) 1 1 (x - 2 ^ (k - 1)) 0 (omega arith) (pow_pos (k - 1))
       ∙ omega (arith, xor_zero_r (x - 2 ^ (k - 1)))
 
-  turned_lt : (x : ℕ) → x < 2 ^ k → turned k x < 2 ^ k
-  turned_lt x l =
-      let d = double k some in
-      either x (2 ^ (k - 1)) (λ h. omega (arith, turned_low x h)) (λ h. omega (arith, turned_high x h l))
-
   signed_turned : (x : ℕ) → x < 2 ^ k → signed k x ≡ sub_ℕ (turned k x) (2 ^ (k - 1))
   signed_turned x l =
       let d = double k some in
       either x (2 ^ (k - 1))
       (λ h. let e = turned_low x h in signed_low k some x h ∙ pos_as x (turned k x) _ (omega arith))
       (λ h. let e = turned_high x h l in signed_high k some x h ∙ sub_same x (2 ^ k) (turned k x) _ (omega arith))
-
-  -- the order of signed numbers is that of their turned bits
-  pub order : (x y : ℕ) → x < 2 ^ k → y < 2 ^ k → ltb (turned k x) (turned k y) ≡ lt_z (signed k x) (signed k y)
-  order x y l m = sym (sub_order (turned k x) (turned k y) (2 ^ (k - 1))) ∙ sym (ap₂ lt_z (signed_turned x l) (signed_turned y m))
 
   -- ---- u - 2^k clamped, by the four ranges of u
 
@@ -191,93 +159,41 @@ module _ (k : ℕ) (some : 0 < k) where
       let v = turned k z + c in
       (omega arith, omega arith, summed x v hx (signed_turned y hy ∙ sub_same (turned k y) h v h (omega arith)))
 
-  -- the numerals of the code stand apart, so that a wrong one is refused by its number
-  abbrev Numerals : {exact : ℤ} {value : ℕ} {marked : Bool} → Added k exact value marked → Type 0
-  Numerals a =
-      (a.x_top ≡ 2 ^ (k - 1)) × (a.z_top ≡ 2 ^ (k - 1)) × (a.sum_top ≡ 2 ^ (k - 1)) × (a.most ≡ 2 ^ (k - 1) - 1) × (a.least ≡ 2 ^ (k - 1))
-      × (a.ones ≡ 2 ^ k - 1)
-
-  pub clamped_sum : {exact : ℤ} {value : ℕ} {marked : Bool} (a : Added k exact value marked) → Numerals a → Clamps k exact value marked
-  clamped_sum {marked = marked} a n =
-      let s = a.sum in
-      let h = 2 ^ (k - 1) in
-      let e = added a.minus a.x a.y a.x_fits a.y_fits (rw n.5 at a.z_picked) a.carry_picked in
-      let r = by_sides a.x a.z a.carry s (double k some) a.x_fits e.0 e.1 a.first_added a.then_added a.sum_fits _ _ _
-      (side a.x a.x_fits _ refl) (side a.z e.0 _ refl) (side s a.sum_fits _ refl) in
-      let lost : marked ≡ sign_lost (ltb a.x h) (ltb a.z h) (ltb s h) = rw (n.0, n.1, n.2) at a.signs in
-      let limit : a.limit ≡ cond (ltb a.x h) (h - 1) h = rw (n.0, n.3, n.4) at a.limit_picked in
-      let difference = a.is_exact ∙ e.2 in
-      record {
-        value_is = a.value_picked ∙ ap₂ (λ (b : Bool) (n : ℕ). cond b n s) lost limit ∙ r.value_is ∙ sym (ap (clamped k) difference);
-        mark_is = lost ∙ r.mark_is ∙ sym (ap (is_marked k) difference);
+  -- what the code of a clamped sum has, each fact as a call promises it; `number` says what a lane holds
+  pub clamped_sum : {L : Type 0} (number : L → ℕ) (minus : Bool) (x y : L) {z s limit v : L} {a b t marked : Bool}
+      → number z ≡ cond minus (2 ^ k - 1 - number y) (number y) → number y < 2 ^ k
+      → number s ≡ ((number x + number z) % 2 ^ k + cond minus 1 0) % 2 ^ k
+      → a ≡ ltb (number x) (2 ^ (k - 1)) → number x < 2 ^ k
+      → b ≡ ltb (number z) (2 ^ (k - 1))
+      → t ≡ ltb (number s) (2 ^ (k - 1)) → number s < 2 ^ k
+      → marked ≡ sign_lost a b t → number limit ≡ cond a (2 ^ (k - 1) - 1) (2 ^ (k - 1)) → v ≡ cond marked limit s
+      → in_numbers number (record { value = v; marked = marked }) ≡ clamped_lane k (exact_sum k minus (number x) (number y))
+  clamped_sum number minus x y {z} {s} {limit} {marked = marked} ez hy es ea hx eb et hs em el ev =
+      let e = added minus (number x) (number y) hx hy ez refl in
+      let r = by_sides (number x) (number z) (cond minus 1 0) (number s) (double k some) hx e.0 e.1 refl es hs _ _ _
+      (side (number x) hx _ refl) (side (number z) e.0 _ refl) (side (number s) hs _ refl) in
+      let signs : marked ≡ sign_lost (ltb (number x) (2 ^ (k - 1))) (ltb (number z) (2 ^ (k - 1))) (ltb (number s) (2 ^ (k - 1))) = rw (ea, eb, et) at em in
+      let held : number limit ≡ cond (ltb (number x) (2 ^ (k - 1))) (2 ^ (k - 1) - 1) (2 ^ (k - 1)) = rw ea at el in
+      let value = ap number ev ∙ taken number marked limit s ∙ ap₂ (λ (m : Bool) (n : ℕ). cond m n (number s)) signs held in
+      λ i. record {
+        value = (value ∙ r.value_is ∙ sym (ap (clamped k) e.2)) i;
+        marked = (signs ∙ r.mark_is ∙ sym (ap (is_marked k) e.2)) i;
       }
 
-  -- ---- a difference p - q that fits, wrapped
+-- ---- what std reads as a signed number is this
 
-  wrapped : (r p q : ℕ) → r < 2 ^ k → (r + q) % 2 ^ k ≡ p % 2 ^ k → p < 2 ^ k + 2 ^ k → q ≤ 2 ^ k → q ≤ p + 2 ^ (k - 1) → p < q + 2 ^ (k - 1)
-      → signed k r ≡ sub_ℕ p q
-  wrapped r p q l e hp hq lo hi =
-      let d = double k some in
-      let not_negative : r + q ≡ p → signed k r ≡ sub_ℕ p q = λ s. signed_low k some r (omega arith) ∙ pos_as r p q s in
-      let negative : r + q ≡ p + 2 ^ k → signed k r ≡ sub_ℕ p q = λ s. signed_high k some r (omega arith) ∙ sub_same r (2 ^ k) p q s in
-      once (2 ^ k) (r + q) (omega arith)
-      (λ t. once (2 ^ k) p hp (λ u. not_negative (omega arith)) (λ u. absurd (omega arith)))
-      (λ t. once (2 ^ k) p hp (λ u. negative (omega arith)) (λ u. not_negative (omega arith)))
+pub as_cast : (w : Width) (n : ℕ) → 0 < width_of w → hbits w ≡ width_of w - 1 → n < 2 ^ width_of w → signed (width_of w) n ≡ to_z w n
+as_cast w n some half l =
+    either n (2 ^ (width_of w - 1))
+    (λ h. signed_low (width_of w) some n h ∙ sym (rw (half, lt-ltb n _ h)))
+    (λ h. signed_high (width_of w) some n h ∙ sub_neg n (2 ^ width_of w) l ∙ sym (rw (half, le-ltb n _ h)))
 
--- ---- a product: (a - h)(b - h) is ab + hh - (ah + hb)
-
--- the two parts are near each other, where a and b are at most h + h
-near : (a b c d h : ℕ) → a + c ≡ h + h → b + d ≡ h + h
-    → (a * h + h * b ≤ a * b + h * h + h * h) × (a * b ≤ a * h + h * b) × (a * h + h * b ≤ h * h * 4)
-near a b c d h e f =
-    let p = simp mul-add at (ap (λ (n : ℕ). a * n) f) in
-    let q = simp add-mul at (ap (λ (n : ℕ). n * b) e) in
-    let r = simp mul-add at (ap (λ (n : ℕ). c * n) f) in
-    let s = simp add-mul at (ap (λ (n : ℕ). n * h) e) in
-    let t = simp mul-add at (ap (λ (n : ℕ). h * n) f) in
-    (omega arith, omega arith, omega arith)
-
-module _ (k : ℕ) (some : 0 < k) where
-  squared : 2 ^ (k + k) ≡ 2 ^ (k - 1) * 2 ^ (k - 1) * 4
-  squared =
-      let d = double k some in
-      pow-add 2 k k ∙ ap₂ ◌*◌ d d ∙ simp (add-mul, mul-add) (omega arith)
-
-  -- what the code multiplies and adds has at most k bits, so it fits k + k
-  module _ (a b : ℕ) (ha : a < 2 ^ k) (hb : b < 2 ^ k) where
-    pub product_of_turned : turned k a * turned k b < 2 ^ (k + k)
-    product_of_turned = product_fits k (turned_lt k some a ha) (turned_lt k some b hb)
-
-    pub scaled_sum_of_turned : (turned k a + turned k b) * 2 ^ (k - 1) < 2 ^ (k + k)
-    scaled_sum_of_turned =
-        let h = 2 ^ (k - 1) in
-        let less : turned k a + turned k b < 4 * h = omega (arith, double k some, turned_lt k some a ha, turned_lt k some b hb) in
-        omega (arith, squared, mul-lt-mul_of_pos_right less (pow_pos (k - 1)))
-
-    pub sum_of_turned : turned k a + turned k b < 2 ^ (k + k)
-    sum_of_turned = omega (arith, scaled_sum_of_turned, mul-le-mul_left (turned k a + turned k b) (pow_pos (k - 1)))
-
-  -- p and r are what the code has: the sum and then the difference, both wrapped
-  pub product : (a b : ℕ) {p r : ℕ} → a < 2 ^ k → b < 2 ^ k → r < 2 ^ (k + k)
-      → p ≡ (turned k a * turned k b + 2 ^ (k - 1) * 2 ^ (k - 1)) % 2 ^ (k + k) → (r + (turned k a + turned k b) * 2 ^ (k - 1)) % 2 ^ (k + k) ≡ p
-      → signed (k + k) r ≡ signed k a *ℤ signed k b
-  product a b {p} {r} ha hb hr e f =
-      let h = 2 ^ (k - 1) in
-      let x = turned k a in
-      let y = turned k b in
-      let l = turned_lt k some a ha in
-      let m = turned_lt k some b hb in
-      let d = double k some in
-      let g = double (k + k) (omega arith) in
-      let q = pow_pos (k + k) in
-      let n = near x y (2 ^ k - x) (2 ^ k - y) h (omega arith) (omega arith) in
-      let w = squared in
-      let c : x * h + h * y ≡ (x + y) * h = simp (add-mul, mul_comm h y) in
-      wrapped (k + k) (omega arith) r (x * y + h * h) (x * h + h * y) hr (rw c (f ∙ e)) (omega arith) (omega arith) (omega arith) (omega arith)
-      ∙ sym (ap₂ ◌*ℤ◌ (signed_turned k some a ha) (signed_turned k some b hb) ∙ sub_times x h y h)
-
--- m is what the code has for the product, and f makes its answer of what it clamps
-pub with_product : (k : ℕ) {A : Type 0} (f : ℤ → A) (subtract : Bool) (rs1 a b m : ℕ) {r : A} → signed (k + k) m ≡ signed k a *ℤ signed k b
-    → r ≡ f (exact_sum (k + k) subtract rs1 m) → r ≡ f (cond subtract (multiply_subtract k rs1 a b) (multiply_add k rs1 a b))
-with_product k f true rs1 a b m e g = g ∙ ap (λ (n : ℤ). f (signed (k + k) rs1 -ℤ n)) e
-with_product k f false rs1 a b m e g = g ∙ ap (λ (n : ℤ). f (signed (k + k) rs1 +ℤ n)) e
+-- a product of two numbers of the width v in the width w, in which it fits: its casts change none of the signed numbers
+pub product : (v w : Width) → 0 < width_of v → hbits v ≡ width_of v - 1 → 0 < width_of w → hbits w ≡ width_of w - 1 → (a b r : ℕ) (x y : ℤ)
+    → a < 2 ^ width_of v → b < 2 ^ width_of v → r < 2 ^ width_of w → x ≡ to_z v a → y ≡ to_z v b
+    → SFits v x → SFits v y → SFits w x → SFits w y → SFits w (x *ℤ y)
+    → r ≡ of_z w (to_z w (of_z w (to_z w (of_z w (to_z v (of_z v x))) *ℤ to_z w (of_z w (to_z v (of_z v y))))))
+    → signed (width_of w) r ≡ signed (width_of v) a *ℤ signed (width_of v) b
+product v w sv hv sw hw a b r x y la lb lr ex ey fx fy gx gy g e =
+    let f : r ≡ of_z w (x *ℤ y) = simp to_z-of_z at e in
+    as_cast w r sw hw lr ∙ ap (to_z w) f ∙ to_z-of_z w (x *ℤ y) g ∙ ap₂ ◌*ℤ◌ (ex ∙ sym (as_cast v a sv hv la)) (ey ∙ sym (as_cast v b sv hv lb))

@@ -25,10 +25,10 @@ use Rattle.alu_lanes.proofs.bitwise.or.Kinds as or_kinds
 use Rattle.alu_lanes.proofs.bitwise.or.Reads as or_reads
 use Rattle.alu_lanes.proofs.bitwise.and.Kinds as and_kinds
 use Rattle.alu_lanes.proofs.bitwise.and.Reads as and_reads
-use Rattle.alu_lanes.proofs.clamped.multiply_16.Kinds as multiply_16_kinds
-use Rattle.alu_lanes.proofs.clamped.multiply_16.Reads as multiply_16_reads
-use Rattle.alu_lanes.proofs.clamped.multiply_32.Kinds as multiply_32_kinds
-use Rattle.alu_lanes.proofs.clamped.multiply_32.Reads as multiply_32_reads
+use Rattle.alu_lanes.proofs.clamped.U32Multiplied.multiply.Kinds as multiply_16_kinds
+use Rattle.alu_lanes.proofs.clamped.U32Multiplied.multiply.Reads as multiply_16_reads
+use Rattle.alu_lanes.proofs.clamped.U64Multiplied.multiply.Kinds as multiply_32_kinds
+use Rattle.alu_lanes.proofs.clamped.U64Multiplied.multiply.Reads as multiply_32_reads
 use Rattle.alu_lanes.proofs.clamped.add_clamped.Kinds as add_clamped_kinds
 use Rattle.alu_lanes.proofs.clamped.add_clamped.Reads as add_clamped_reads
 use Rattle.alu_lanes.proofs.clamped.subtract_from_clamped.Kinds as subtract_from_clamped_kinds

@@ -1,19 +1,10 @@
--- The laws of unsigned numbers, once over the width k: moved bits fit; bits are rotated.
+-- k bits rotated by two shifts, once over k.
 -- Assumes nothing.
-use Rattle.std.proofs.Common.{◌≡◌, ℕ, zero, suc, ◌+◌, ◌-◌, ◌*◌, ◌/◌, ◌%◌, ◌^◌, ◌<◌, ◌≤◌, ap, ◌∙◌, subst, ap₂, lt_of_le_of_lt, mod-eq_of_lt, mul-one, div-one, arith, shl_lt, shr_lt}
+use Rattle.std.proofs.Common.{◌≡◌, ℕ, zero, suc, ◌+◌, ◌-◌, ◌*◌, ◌/◌, ◌%◌, ◌^◌, ◌<◌, ◌≤◌, ap, ◌∙◌, subst, ap₂, mod-eq_of_lt, mul-one, div-one, arith, shr_lt}
 use native.Mathlib.Nat.{sub-zero, pow-zero, mod-one, mod_self, mul-mod_left}
 use lib.Bits.{bit_or, or_self, or_shifted_r}
-use lib.Pow.{mod-pow-add, shl-shr, shr_le}
+use lib.Pow.{mod-pow-add, shl-shr}
 use Rattle.alu_rules.specs.Width.{rotated_right}
-
--- a number of k bits moved right has k bits, also as the high half of k + k
-pub moved_lt : (k n : ℕ) {x : ℕ} → x < 2 ^ k → x / 2 ^ n < 2 ^ k
-moved_lt k n {x} h = lt_of_le_of_lt (shr_le x n) h
-
-pub high_fits : (k : ℕ) {hi : ℕ} → hi < 2 ^ k → hi * 2 ^ k < 2 ^ (k + k)
-high_fits k h = shl_lt k k h
-
--- ---- k bits rotated by two shifts
 
 -- moved left by all but n of k places, x has its n low bits left
 moved_left : (k n x : ℕ) → n ≤ k → x * 2 ^ (k - n) % 2 ^ k ≡ x % 2 ^ n * 2 ^ (k - n)

@@ -1,16 +1,13 @@
--- A lane that clamps, at each of the three widths: "The exact result is clamped", and whether that changed it.
+-- A lane that clamps, of any width: "The exact result is clamped", and whether that changed it.
 -- Assumes nothing.
-use Rattle.std.specs.Prelude.{ℤ}
+use Rattle.std.specs.Prelude.{ℕ, ℤ}
 use Rattle.alu_rules.specs.Width.{clamped, is_marked}
-use Rattle.alu_lanes.specs.declared.clamped.Clamped16.{Clamped16}
-use Rattle.alu_lanes.specs.declared.clamped.Clamped32.{Clamped32}
-use Rattle.alu_lanes.specs.declared.clamped.Clamped64.{Clamped64}
+use Rattle.alu_lanes.specs.declared.clamped.Clamped.{Clamped}
 
-abbrev pub clamped16 : ℤ → Clamped16
-clamped16 z = record { value = clamped 16 z; marked = is_marked 16 z }
+-- the lane of k bits whose exact result is z
+abbrev pub clamped_lane : ℕ → ℤ → Clamped ℕ
+clamped_lane k z = record { value = clamped k z; marked = is_marked k z }
 
-abbrev pub clamped32 : ℤ → Clamped32
-clamped32 z = record { value = clamped 32 z; marked = is_marked 32 z }
-
-abbrev pub clamped64 : ℤ → Clamped64
-clamped64 z = record { value = clamped 64 z; marked = is_marked 64 z }
+-- a lane of any type, its value as a number
+abbrev pub in_numbers : {L : Type 0} → (L → ℕ) → Clamped L → Clamped ℕ
+in_numbers number r = record { value = number r.value; marked = r.marked }

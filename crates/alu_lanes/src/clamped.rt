@@ -2,55 +2,49 @@
 
 ghost use Rattle.std.specs.Prelude.{◌≡◌, if◌then◌else◌};
 ghost use Rattle.alu_rules.specs.Lane.{multiply_add, multiply_subtract, AHS, SFHS};
-ghost use Rattle.alu_lanes.specs.Clamped.{clamped16, clamped32, clamped64};
+ghost use Rattle.alu_lanes.specs.Clamped.{clamped_lane, in_numbers};
 
-use crate::sign::{clamped_sum_16, clamped_sum_32, clamped_sum_64, product_16, product_32};
+use crate::sign::{clamped_multiply, clamped_sum};
+use register::halves::Halved;
 
-// A lane of 16 bits: the exact result clamped, and whether that changed it.
+// A lane of any width: the exact result clamped, and whether that changed it.
 #[derive(Clone, Copy)]
-pub struct Clamped16 {
-    pub value: u16,
+pub struct Clamped<L> {
+    pub value: L,
     pub marked: bool,
 }
 
-// The same at 32 bits.
-#[derive(Clone, Copy)]
-pub struct Clamped32 {
-    pub value: u32,
-    pub marked: bool,
+// A lane of the multiply family, a word or a long: rs1 + a x b, or rs1 - a x b, where a and b are as wide as its halves.
+pub trait Multiplied: Halved {
+    fn multiply(subtract: bool, rs1: Self, a: Self::Half, b: Self::Half) -> Clamped<Self>
+        ensures { in_numbers Self.number result ≡ clamped_lane Self.width (if subtract then multiply_subtract Self.Half.width (Self.number rs1) (Self.Half.number a) (Self.Half.number b)
+            else multiply_add Self.Half.width (Self.number rs1) (Self.Half.number a) (Self.Half.number b)) };
 }
 
-// The same at 64 bits.
-#[derive(Clone, Copy)]
-pub struct Clamped64 {
-    pub value: u64,
-    pub marked: bool,
+// SIMAL, SIMAH, SIMSL and SIMSH.
+impl Multiplied for u32 {
+    fn multiply(subtract: bool, rs1: u32, a: u16, b: u16) -> Clamped<u32> {
+        clamped_multiply(subtract, rs1, a, b)
+    }
 }
 
-// SIMAL and SIMAH: rs1 + a x b, clamped to 32 bits; SIMSL and SIMSH: rs1 - a x b.
-pub fn multiply_16(subtract: bool, rs1: u32, a: u16, b: u16) -> Clamped32
-    ensures { result ≡ clamped32 (if subtract then multiply_subtract 16 rs1 a b else multiply_add 16 rs1 a b) }
-{
-    clamped_sum_32(subtract, rs1, product_16(a, b))
-}
-
-// SLMAL and SLMAH: rs1 + a x b, clamped to 64 bits; SLMSL and SLMSH: rs1 - a x b.
-pub fn multiply_32(subtract: bool, rs1: u64, a: u32, b: u32) -> Clamped64
-    ensures { result ≡ clamped64 (if subtract then multiply_subtract 32 rs1 a b else multiply_add 32 rs1 a b) }
-{
-    clamped_sum_64(subtract, rs1, product_32(a, b))
+// SLMAL, SLMAH, SLMSL and SLMSH.
+impl Multiplied for u64 {
+    fn multiply(subtract: bool, rs1: u64, a: u32, b: u32) -> Clamped<u64> {
+        clamped_multiply(subtract, rs1, a, b)
+    }
 }
 
 // AHS: a + b.
-pub fn add_clamped(a: u16, b: u16) -> Clamped16
-    ensures { result ≡ clamped16 (AHS a b) }
+pub fn add_clamped(a: u16, b: u16) -> Clamped<u16>
+    ensures { result ≡ clamped_lane 16 (AHS a b) }
 {
-    clamped_sum_16(false, a, b)
+    clamped_sum(false, a, b)
 }
 
 // SFHS, b - a: the table subtracts its first operand from its second.
-pub fn subtract_from_clamped(a: u16, b: u16) -> Clamped16
-    ensures { result ≡ clamped16 (SFHS a b) }
+pub fn subtract_from_clamped(a: u16, b: u16) -> Clamped<u16>
+    ensures { result ≡ clamped_lane 16 (SFHS a b) }
 {
-    clamped_sum_16(true, b, a)
+    clamped_sum(true, b, a)
 }

@@ -6,6 +6,7 @@ ghost use Rattle.alu_rules.specs.Lane.{CNTIH, CLZW};
 use crate::ones::in_sixteens;
 
 // CNTIH: of both halfwords of a word.
+#[tactic(auto, using(alu_rules::proofs::Ones::last_step))]
 pub fn ones_in_halfwords(w: u32) -> u32
     ensures { result ≡ CNTIH w }
 {
@@ -16,5 +17,5 @@ pub fn ones_in_halfwords(w: u32) -> u32
 pub fn leading_zeros(w: u32) -> u32
     ensures { result ≡ CLZW w }
 {
-    u32::leading_zeros(w)
+    w.leading_zeros()
 }

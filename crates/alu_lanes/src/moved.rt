@@ -11,10 +11,10 @@ pub fn shift_halfwords_right(w: u32, by: u32) -> u32
     ((w / 0x1_0000) >> places) * 0x1_0000 + ((w % 0x1_0000) >> places)
 }
 
-// ROTW: what leaves on the right comes in on the left. By 0 places nothing leaves, and the word stands in both parts.
+// ROTW: what leaves on the right comes in on the left.
+#[tactic(auto, using(crate::proofs::Words::rotated_by_shifts))]
 pub fn rotate_right(w: u32, by: u32) -> u32
     ensures { result ≡ ROTW w by }
 {
-    let places = by % 32;
-    (w >> places) | (w << ((32 - places) % 32))
+    w.rotate_right(by)
 }

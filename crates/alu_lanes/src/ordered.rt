@@ -4,11 +4,10 @@ ghost use Rattle.std.specs.Prelude.{◌≡◌, int_lt};
 ghost use Rattle.alu_rules.specs.Width.{signed};
 ghost use Rattle.alu_rules.specs.Lane.{MAXWS, MINWS};
 
-// With the top bit turned a signed number is in order among the unsigned ones.
 fn less(a: u32, b: u32) -> bool
     ensures { result ≡ int_lt (signed 32 a) (signed 32 b) }
 {
-    (a ^ 0x8000_0000) < (b ^ 0x8000_0000)
+    a.cast_signed() < b.cast_signed()
 }
 
 // MAXWS.

@@ -7,12 +7,12 @@ ghost use Rattle.alu_rules.specs.Lane.{AU, SFWU};
 pub fn add(a: u32, b: u32) -> u32
     ensures { result ≡ AU a b }
 {
-    std::num::wrapping_add_u32(a, b)
+    a.wrapping_add(b)
 }
 
 // SFWU, b - a: the table subtracts its first operand from its second.
 pub fn subtract_from(a: u32, b: u32) -> u32
     ensures { result ≡ SFWU a b }
 {
-    std::num::wrapping_sub_u32(b, a)
+    b.wrapping_sub(a)
 }

@@ -1,10 +1,9 @@
 -- What the rows of the table give. Carried by computation: each law is one line for each row, or one test over all sixteen short codes.
 -- Assumes nothing.
-use Prim.Native.Nat.{ℕ, zero, suc, ◌<◌, ◌≤◌}
+use Prim.Native.Nat.{ℕ}
 use mathlib.Core.Path.{◌≡◌, refl, sym, ap, ◌∙◌}
 use mathlib.Core.Bool.{Bool, true, false, cond}
 use mathlib.Core.List.{map}
-use native.Mathlib.Omega.{arith}
 use lib.ListN.{get_or, set, get_or-map}
 use lib.Seq.{get_or-set_other}
 use Rattle.register.specs.declared.Register.{Register}
@@ -124,21 +123,3 @@ module _ (w : ℕ) {l : Bool} (is-li : l ≡ is_li w) where
           e
           ∙ short_third (code_of w) w a b zero_register c
           ∙ sym (ap (λ (o : Operation). result_of o w a b c) (short_word_lem w is-li other is-multiply no))
-
--- a code below 16 that is none of 0 to 14 is 15. `Others c k`: c is none of 0 to k - 1
-abbrev pub Others : ℕ → ℕ → Type 0
-Others c zero = Unit {0}
-Others c (suc k) = Others c k × (c ≡ k → ⊥)
-
-beyond : (c k : ℕ) → Others c k → k ≤ c
-beyond c zero n = omega arith
-beyond c (suc k) n = next (beyond c k n.0) n.1
-  where
-    next : k ≤ c → (c ≡ k → ⊥) → suc k ≤ c
-    next h m = omega arith
-
-pub last_code : (c : ℕ) → c < 16 → Others c 15 → c ≡ 15
-last_code c h n = highest (beyond c 15 n)
-  where
-    highest : 15 ≤ c → c ≡ 15
-    highest l = omega arith

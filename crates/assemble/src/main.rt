@@ -4,16 +4,13 @@
 
 #![tactic(auto)]
 
-ghost use Rattle.std.specs.Prelude.{◌≡◌};
-ghost use Rattle.console.specs.Input.{CameInto};
+ghost use Rattle.std.specs.Prelude.{◌≡◌, ◌≤◌, IfOk, length};
 
-use console::arguments::{PATH_MAX, is_argument, read_argument, read_name};
-use console::input::{Came, read_input};
-use console::output::{
-    Stream, Streams, print_front, say_unreadable, standard, write_refused, write_refused_line,
-};
+use console::arguments::{PATH_MAX, is_argument, name_of, read_argument};
+use console::input::{Unreadable, read_input};
+use console::output::Streams;
+use console::refused::{Refused, RefusedLine};
 use job_writer::{LARGEST, write_job};
-use script::same;
 use std::io::{Read, Write};
 use std::rt::{Env, Files};
 use table::Edition;
@@ -22,55 +19,30 @@ use text_reader::{BYTES_TO_READ, read_text};
 // One byte more than 32 registers have: the writer refuses so many, and more could not be worse.
 const REGISTER_BYTES: usize = 513;
 
-// The edition that is asked for, and the number of the argument behind it.
-#[derive(Clone, Copy)]
-enum Asked {
-    For(Edition, usize),
-    // something else stands behind `--edition`
-    Unknown,
-}
-
-// Whether an argument is this word.
-fn argument_is(rt: &impl Env, number: usize, word: &[u8]) -> bool {
-    let mut name = [0u8; PATH_MAX];
-    let length = read_name(rt, number, &mut name);
-    same(&name[..length], word)
-}
-
-fn asked_edition(rt: &impl Env) -> Asked {
-    if !is_argument(rt, 1) {
-        return Asked::For(Edition::One, 1);
+// The edition that is asked for, and the number of the argument behind it; or nothing, where something else stands behind `--edition`.
+fn asked_edition(rt: &impl Env) -> Option<(Edition, usize)> {
+    match name_of(rt, 1, &mut [0u8; PATH_MAX]) {
+        b"--edition" => match name_of(rt, 2, &mut [0u8; PATH_MAX]) {
+            b"1" => Some((Edition::One, 3)),
+            b"2" => Some((Edition::Two, 3)),
+            _ => None,
+        },
+        _ => Some((Edition::One, 1)),
     }
-    if !argument_is(rt, 1, b"--edition") {
-        return Asked::For(Edition::One, 1);
-    }
-    if !is_argument(rt, 2) {
-        return Asked::Unknown;
-    }
-    if argument_is(rt, 2, b"1") {
-        return Asked::For(Edition::One, 3);
-    }
-    if argument_is(rt, 2, b"2") {
-        return Asked::For(Edition::Two, 3);
-    }
-    Asked::Unknown
 }
 
 // The bytes of the registers, from the file that this argument names, if there is one.
-fn read_registers<R: Env + Files, O: Write, E: Write>(
+fn read_registers<'a, R: Env + Files, O: Write, E: Write>(
     rt: &R,
     streams: &mut Streams<O, E>,
     number: usize,
-    room: &mut [u8],
-) -> Came
-    ensures into { CameInto result room.new }
+    room: &'a mut [u8],
+) -> Result<&'a [u8], Unreadable>
+    ensures into { IfOk result (λ part. length part.now ≤ length room.old) }
     ensures output { streams.new.output ≡ streams.old.output }
 {
     if !is_argument(rt, number) {
-        return Came {
-            failed: false,
-            size: 0,
-        };
+        return Ok(&[]);
     }
     read_argument(rt, streams, number, room)
 }
@@ -82,12 +54,10 @@ fn write_program(
     registers: &[u8],
 ) {
     let mut job = [0u8; LARGEST];
-    let written = write_job(edition, words, registers, &mut job);
-    if written.refusal != 0 {
-        write_refused(streams, Stream::Error, written.refusal);
-        return;
-    }
-    print_front(streams, &job, written.size);
+    match write_job(edition, words, registers, &mut job) {
+        Ok(size) => streams.print_front(&job, size),
+        Err(why) => streams.tell_value(Refused(why)),
+    };
 }
 
 fn assemble(
@@ -96,14 +66,18 @@ fn assemble(
     text: &[u8],
     registers: &[u8],
 ) {
-    let read = read_text(text);
-    if read.refusal != 0 {
-        write_refused_line(streams, Stream::Error, read.refusal, read.line);
-        return;
+    match read_text(text) {
+        Ok(read) => {
+            let n = read.n.0 as usize;
+            write_program(streams, edition, &read.words[..n], registers);
+        }
+        Err(faulty) => {
+            streams.tell_value(RefusedLine {
+                refusal: faulty.refusal,
+                line: faulty.line,
+            });
+        }
     }
-    let words = read.words;
-    let n = read.n.0 as usize;
-    write_program(streams, edition, &words[..n], registers);
 }
 
 fn run(
@@ -111,26 +85,21 @@ fn run(
     input: &mut impl Read,
     streams: &mut Streams<impl Write, impl Write>,
 ) {
-    let asked = asked_edition(rt);
-    let Asked::For(edition, next) = asked else {
-        say_unreadable(streams, b"--edition");
+    let Some((edition, next)) = asked_edition(rt) else {
+        streams.say_unreadable(b"--edition");
         return;
     };
-    let mut text = [0u8; BYTES_TO_READ];
-    let came = read_input(input, streams, &mut text);
-    if came.failed {
+    let mut room = [0u8; BYTES_TO_READ];
+    let Ok(text) = read_input(input, streams, &mut room) else {
         return;
-    }
-    let mut registers = [0u8; REGISTER_BYTES];
-    let named = read_registers(rt, streams, next, &mut registers);
-    if named.failed {
+    };
+    let mut register_room = [0u8; REGISTER_BYTES];
+    let Ok(registers) = read_registers(rt, streams, next, &mut register_room) else {
         return;
-    }
-    let size = came.size;
-    let bytes = named.size;
-    assemble(streams, edition, &text[..size], &registers[..bytes]);
+    };
+    assemble(streams, edition, text, registers);
 }
 
 fn main(rt: HostRuntime) {
-    run(&rt, &mut rt.stdin(), &mut standard(&rt));
+    run(&rt, &mut rt.stdin(), &mut Streams::standard(&rt));
 }

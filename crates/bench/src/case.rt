@@ -1,142 +1,129 @@
-// A line as a case: whether its words are of a form, and what each of them says.
+// The words of a line, taken one after another: what each of them says, or nothing where it is not of the form that a case asks for.
 
-ghost use Rattle.std.specs.Prelude.{◌≤◌, ◌≡◌};
+ghost use Rattle.std.specs.Prelude.{◌≤◌, IfSome};
 
-use script::{Number, decimal, hex, same, word_end};
+use script::{decimal, first_word, hex};
+use table::Edition;
 
 // The largest size that a case can name, and so the size of every buffer: more than the largest job takes.
 pub(crate) const MOST: usize = 800;
-
-// No buffer has room behind it.
-pub(crate) const LARGEST_START: usize = 0xFFFF_FFFF_FFFF_FFFF;
 
 // The words of the longest form, and one more, so that a word too many shows.
 const WORDS: usize = 14;
 
 // The words of a program that a case can name.
-const NAMED: usize = 4;
-
-// The word of that number, from 0; empty where there is none.
-fn word(line: &[u8], number: usize) -> &[u8] {
-    let mut at = 0;
-    let mut end = word_end(line, 0);
-    let mut passed = 0;
-    while passed < number {
-        if end == line.len() {
-            return &line[end..];
-        }
-        at = end + 1;
-        end = word_end(line, at);
-        passed += 1;
-    }
-    &line[at..end]
-}
-
-fn unknown() -> Number
-    ensures { result.value ≡ 0 }
-{
-    Number {
-        known: false,
-        value: 0,
-    }
-}
+pub(crate) const NAMED: usize = 4;
 
 // A decimal number of at most so much.
-fn number(digits: &[u8], most: u32) -> Number
-    ensures { result.value ≤ most }
+fn number(digits: &[u8], most: u32) -> Option<u32>
+    ensures { IfSome result (λ value. value ≤ most) }
 {
-    let said = decimal(digits);
-    if said.value > most {
-        return unknown();
+    let value = decimal(digits)?;
+    if value > most {
+        return None;
     }
-    said
+    Some(value)
 }
 
-// One of the four words of a register in 32 digits, counted from the left.
-fn quarter(digits: &[u8], i: usize) -> Number
-    requires { i ≤ 3 }
+fn size(digits: &[u8]) -> Option<usize>
+    ensures { IfSome result (λ size. size ≤ 800) }
 {
+    let value = number(digits, MOST as u32)?;
+    Some(value as usize)
+}
+
+// A register in 32 digits as a row: its leftmost word is the last.
+fn row(digits: &[u8]) -> Option<[u32; 4]> {
     if digits.len() != 32 {
-        return unknown();
+        return None;
     }
-    hex(&digits[8 * i..8 * i + 8])
+    let w3 = hex(&digits[..8])?;
+    let w2 = hex(&digits[8..16])?;
+    let w1 = hex(&digits[16..24])?;
+    let w0 = hex(&digits[24..])?;
+    Some([w0, w1, w2, w3])
 }
 
-fn is_register(digits: &[u8]) -> bool {
-    quarter(digits, 0).known
-        && quarter(digits, 1).known
-        && quarter(digits, 2).known
-        && quarter(digits, 3).known
+// What is left of a line, and how many words of that are looked at.
+#[derive(Clone, Copy)]
+pub(crate) struct Words<'a> {
+    rest: &'a [u8],
+    left: usize,
 }
 
-fn is_missing(word: &[u8]) -> bool {
-    word.len() == 0 || same(word, b"-")
-}
-
-// What a form says of a word. `N` stands for a size, `B` for a number up to 255, `S` for a start, `W` for a word and `R` for a register, both of which may be missing;
-// anything longer stands for itself.
-fn word_fits(word: &[u8], form: &[u8]) -> bool {
-    if form.len() != 1 {
-        return same(word, form);
-    }
-    match form[0] {
-        b'N' => number(word, MOST as u32).known,
-        b'B' => number(word, 255).known,
-        b'S' => same(word, b"max") || number(word, MOST as u32).known,
-        b'W' => is_missing(word) || hex(word).known,
-        b'R' => is_missing(word) || is_register(word),
-        _ => false,
-    }
-}
-
-// Whether a line is of a form, word by word.
-pub(crate) fn fits(line: &[u8], form: &[u8]) -> bool {
-    for i in 0..WORDS {
-        if !word_fits(word(line, i), word(form, i)) {
-            return false;
+impl<'a> Words<'a> {
+    pub(crate) fn of(line: &'a [u8]) -> Words<'a> {
+        Words {
+            rest: line,
+            left: WORDS,
         }
     }
-    true
-}
 
-// What the word of that number says, where the line is of a form that has it so.
-pub(crate) fn size(line: &[u8], i: usize) -> usize
-    ensures { result ≤ 800 }
-{
-    number(word(line, i), MOST as u32).value as usize
-}
-
-pub(crate) fn byte(line: &[u8], i: usize) -> u8 {
-    number(word(line, i), 255).value as u8
-}
-
-pub(crate) fn start(line: &[u8], i: usize) -> usize {
-    if same(word(line, i), b"max") {
-        return LARGEST_START;
+    // The next word; empty where there is none.
+    pub(crate) fn next(&mut self) -> &'a [u8] {
+        let (word, rest) = first_word(self.rest);
+        self.rest = rest.unwrap_or(&[]);
+        self.left = self.left.saturating_sub(1);
+        word
     }
-    size(line, i)
-}
 
-pub(crate) fn code(line: &[u8], i: usize) -> Number {
-    hex(word(line, i))
-}
+    // No word follows.
+    pub(crate) fn end(self) -> Option<()> {
+        if self.rest.iter().take(self.left).all(|byte| *byte == b' ') {
+            return Some(());
+        }
+        None
+    }
 
-// As a row: its leftmost word is the last.
-pub(crate) fn register(line: &[u8], i: usize) -> [u32; 4] {
-    let digits = word(line, i);
-    [
-        quarter(digits, 3).value,
-        quarter(digits, 2).value,
-        quarter(digits, 1).value,
-        quarter(digits, 0).value,
-    ]
-}
+    pub(crate) fn size(&mut self) -> Option<usize>
+        ensures { IfSome result (λ size. size ≤ 800) }
+    {
+        size(self.next())
+    }
 
-// The words from that one on, at the front of a program.
-pub(crate) fn put_words(line: &[u8], from: usize, program: &mut [u32])
-    requires { from ≤ 9 }
-{
-    for i in 0..NAMED.min(program.len()) {
-        program[i] = code(line, from + i).value;
+    pub(crate) fn byte(&mut self) -> Option<u8> {
+        let value = number(self.next(), 255)?;
+        Some(value as u8)
+    }
+
+    // A byte that cases of the second edition name; of the first it is zero.
+    pub(crate) fn byte_of(&mut self, edition: Edition) -> Option<u8> {
+        match edition {
+            Edition::One => Some(0),
+            Edition::Two => self.byte(),
+        }
+    }
+
+    // A size, or a start that no buffer has room behind.
+    pub(crate) fn start(&mut self) -> Option<usize> {
+        match self.next() {
+            b"max" => Some(usize::MAX),
+            digits => size(digits),
+        }
+    }
+
+    // A word in hex digits, which may be missing.
+    pub(crate) fn code(&mut self) -> Option<Option<u32>> {
+        match self.next() {
+            b"" | b"-" => Some(None),
+            digits => Some(Some(hex(digits)?)),
+        }
+    }
+
+    // A register, zero where it is missing.
+    pub(crate) fn row(&mut self) -> Option<[u32; 4]> {
+        match self.next() {
+            b"" | b"-" => Some([0; 4]),
+            digits => row(digits),
+        }
+    }
+
+    // The words of a program, zeros where they are missing.
+    pub(crate) fn program(&mut self) -> Option<[u32; NAMED]> {
+        let mut program = [0; NAMED];
+        for word in &mut program {
+            *word = self.code()?.unwrap_or(0);
+        }
+        Some(program)
     }
 }

@@ -1,22 +1,34 @@
 // The plain machine: programs and lone words.
 
-use crate::case::MOST;
-use crate::{case, print};
+ghost use Rattle.std.specs.Prelude.{◌≤◌};
+
+use crate::case::{MOST, NAMED, Words};
+use crate::print;
 use console::output::Streams;
 use plain::Executed;
 use register::Register;
 use std::io::Write;
 use table::Edition;
 
-// Registers 0 to 3; the others are zero.
-fn file_of(r0: [u32; 4], r1: [u32; 4], r2: [u32; 4], r3: [u32; 4]) -> [[u32; 4]; 32] {
-    let zero = [0u32; 4];
-    let mut file = [zero; 32];
-    file[0] = r0;
-    file[1] = r1;
-    file[2] = r2;
-    file[3] = r3;
-    file
+// The registers that a case names, from one number on and up to another; the others are zero.
+fn file_of(words: &mut Words, from: usize, to: usize) -> Option<[[u32; 4]; 32]>
+    requires { to ≤ 32 }
+{
+    let mut file = [[0; 4]; 32];
+    for number in from..to {
+        file[number] = words.row()?;
+    }
+    Some(file)
+}
+
+// The first register that a case names.
+fn first_named(edition: Edition) -> usize
+    ensures { result ≤ 1 }
+{
+    match edition {
+        Edition::One => 1,
+        Edition::Two => 0,
+    }
 }
 
 fn print_file(
@@ -26,83 +38,50 @@ fn print_file(
 ) {
     print::register(streams, Register::from_row(file[1]));
     print::register(streams, Register::from_row(file[4]));
-    match edition {
-        Edition::One => {}
-        Edition::Two => print::register(streams, Register::from_row(file[0])),
+    if edition == Edition::Two {
+        print::register(streams, Register::from_row(file[0]));
     }
 }
 
-fn print_executed(
+fn print_executed<M>(
     streams: &mut Streams<impl Write, impl Write>,
     edition: Edition,
-    executed: Executed,
+    executed: &Executed<M>,
+    marks: &[u8],
 ) {
-    print::number(streams, executed.refusal as usize);
-    print::number(streams, executed.place);
-    print_file(streams, edition, plain::file_in(executed));
+    print::refusal_and_place(streams, &executed.answer);
+    print_file(streams, edition, executed.file);
+    print::marks(streams, marks);
 }
 
-fn print_program(
+pub(crate) fn answer_program(
     streams: &mut Streams<impl Write, impl Write>,
     edition: Edition,
-    words: &[u32],
-    file: [[u32; 4]; 32],
-) {
-    let answer = plain::execute_all(edition, words, file);
-    print_executed(streams, edition, answer.executed);
-    let marks = answer.marks;
-    print::marks(streams, &marks);
+    mut words: Words,
+) -> Option<()> {
+    let lines = words.size()?;
+    let file = file_of(&mut words, first_named(edition), 2)?;
+    let named = words.program()?;
+    words.end()?;
+    let mut program = [0u32; MOST];
+    program[..NAMED].copy_from_slice(&named);
+    let executed = plain::execute_all(edition, &program[..lines], file);
+    let marks = executed.answer.unwrap_or([0; 64]);
+    print_executed(streams, edition, &executed, &marks);
+    Some(())
 }
 
-fn print_word(
+pub(crate) fn answer_word(
     streams: &mut Streams<impl Write, impl Write>,
     edition: Edition,
-    word: u32,
-    file: [[u32; 4]; 32],
-) {
-    let answer = plain::execute(edition, word, file);
-    print_executed(streams, edition, answer.executed);
-    let mark = [answer.mark];
-    print::marks(streams, &mark);
-}
-
-pub(crate) fn answer_program(streams: &mut Streams<impl Write, impl Write>, line: &[u8]) {
-    let lines = case::size(line, 1);
-    let zero = [0u32; 4];
-    let file = file_of(zero, case::register(line, 2), zero, zero);
-    let mut words = [0u32; MOST];
-    case::put_words(line, 3, &mut words);
-    print_program(streams, Edition::One, &words[0..lines], file);
-}
-
-pub(crate) fn answer_program_of_edition_2(
-    streams: &mut Streams<impl Write, impl Write>,
-    line: &[u8],
-) {
-    let lines = case::size(line, 1);
-    let zero = [0u32; 4];
-    let file = file_of(case::register(line, 2), case::register(line, 3), zero, zero);
-    let mut words = [0u32; MOST];
-    case::put_words(line, 4, &mut words);
-    print_program(streams, Edition::Two, &words[0..lines], file);
-}
-
-pub(crate) fn answer_word(streams: &mut Streams<impl Write, impl Write>, line: &[u8]) {
-    let file = file_of(
-        [0u32; 4],
-        case::register(line, 2),
-        case::register(line, 3),
-        case::register(line, 4),
-    );
-    print_word(streams, Edition::One, case::code(line, 1).value, file);
-}
-
-pub(crate) fn answer_word_of_edition_2(streams: &mut Streams<impl Write, impl Write>, line: &[u8]) {
-    let file = file_of(
-        case::register(line, 2),
-        case::register(line, 3),
-        case::register(line, 4),
-        [0u32; 4],
-    );
-    print_word(streams, Edition::Two, case::code(line, 1).value, file);
+    mut words: Words,
+) -> Option<()> {
+    let word = words.code()?.unwrap_or(0);
+    let first = first_named(edition);
+    let file = file_of(&mut words, first, first + 3)?;
+    words.end()?;
+    let executed = plain::execute(edition, word, file);
+    let mark = executed.answer.unwrap_or(0);
+    print_executed(streams, edition, &executed, &[mark]);
+    Some(())
 }

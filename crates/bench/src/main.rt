@@ -28,8 +28,6 @@
 
 #![tactic(auto)]
 
-ghost use Rattle.std.specs.Prelude.{◌+◌, ◌≤◌, length};
-
 mod case;
 mod machine;
 mod print;
@@ -38,93 +36,66 @@ mod rows;
 mod units;
 mod writes;
 
-use crate::case::fits;
+use crate::case::Words;
 use console::input::read_open;
-use console::output::{Streams, print, say, standard};
-use script::line_end;
+use console::output::Streams;
+use script::first_line;
 use std::io::{Read, Write};
+use table::Edition;
 
 // The longest script, and one byte more.
 const SCRIPT_BYTES: usize = 65536;
 
-// Whether a line is a case; then its answer is printed.
-fn answers(streams: &mut Streams<impl Write, impl Write>, line: &[u8]) -> bool {
-    if fits(line, b"row N S") {
-        rows::answer(streams, line);
-    } else if fits(line, b"cycle-row N S") {
-        units::answer_cycle(streams, line);
-    } else if fits(line, b"read N N N N N") {
-        reads::answer(streams, line);
-    } else if fits(line, b"write N N N W W W W") {
-        writes::answer(streams, line);
-    } else if fits(line, b"plain N R W W W W") {
-        machine::answer_program(streams, line);
-    } else if fits(line, b"lone W R R R") {
-        machine::answer_word(streams, line);
-    } else if fits(line, b"record B B N B W W W W W W W") {
-        units::answer_record(streams, line);
-    } else {
-        return answers_edition_2(streams, line);
+// Prints the answer of a case; nothing where a line is no case.
+fn answer(streams: &mut Streams<impl Write, impl Write>, line: &[u8]) -> Option<()> {
+    let mut words = Words::of(line);
+    match words.next() {
+        b"row" => rows::answer(streams, words),
+        b"cycle-row" => units::answer_cycle(streams, words),
+        b"read" => reads::answer(streams, Edition::One, words),
+        b"read-2" => reads::answer(streams, Edition::Two, words),
+        b"write" => writes::answer(streams, Edition::One, words),
+        b"write-2" => writes::answer(streams, Edition::Two, words),
+        b"plain" => machine::answer_program(streams, Edition::One, words),
+        b"plain-2" => machine::answer_program(streams, Edition::Two, words),
+        b"lone" => machine::answer_word(streams, Edition::One, words),
+        b"lone-2" => machine::answer_word(streams, Edition::Two, words),
+        b"record" => units::answer_record(streams, Edition::One, words),
+        b"record-2" => units::answer_record(streams, Edition::Two, words),
+        _ => None,
     }
-    true
-}
-
-// The same of the second edition's cases.
-fn answers_edition_2(streams: &mut Streams<impl Write, impl Write>, line: &[u8]) -> bool {
-    if fits(line, b"read-2 N N N N N N B") {
-        reads::answer_edition_2(streams, line);
-    } else if fits(line, b"write-2 N N N B W W W W") {
-        writes::answer_edition_2(streams, line);
-    } else if fits(line, b"plain-2 N R R W W W W") {
-        machine::answer_program_of_edition_2(streams, line);
-    } else if fits(line, b"lone-2 W R R R") {
-        machine::answer_word_of_edition_2(streams, line);
-    } else if fits(line, b"record-2 R B B N B W W W W W W W") {
-        units::answer_record_of_edition_2(streams, line);
-    } else {
-        return false;
-    }
-    true
 }
 
 fn print_answer(streams: &mut Streams<impl Write, impl Write>, line: &[u8]) {
-    print(streams, line);
-    print(streams, b" =");
-    if !answers(streams, line) {
-        print(streams, b" UNKNOWN");
+    streams.print(line);
+    streams.print(b" =");
+    if answer(streams, line).is_none() {
+        streams.print(b" UNKNOWN");
     }
-    print(streams, b"\n");
+    streams.print(b"\n");
 }
 
-fn line_at(script: &[u8], at: usize) -> &[u8]
-    requires { at ≤ length script.now }
-    ensures { at + length result.now ≤ length script.now }
-{
-    let end = line_end(script, at);
-    &script[at..end]
-}
-
+// A last line without a newline is a line too.
 fn print_answers(streams: &mut Streams<impl Write, impl Write>, script: &[u8]) {
-    let mut at = 0;
-    while at < script.len() {
-        let line = line_at(script, at);
+    let mut rest = script;
+    while let (line, Some(behind)) = first_line(rest) {
         print_answer(streams, line);
-        at += line.len() + 1;
+        rest = behind;
+    }
+    if !rest.is_empty() {
+        print_answer(streams, rest);
     }
 }
 
 // A script that fills the buffer may go on behind it: none of it is answered then.
 fn answer_all(input: &mut impl Read, streams: &mut Streams<impl Write, impl Write>) {
-    let mut script = [0u8; SCRIPT_BYTES];
-    let came = read_open(input, &mut script);
-    if came.failed || came.size == script.len() {
-        say(streams, b"UNREADABLE\n");
-        return;
+    let mut room = [0u8; SCRIPT_BYTES];
+    match read_open(input, &mut room) {
+        Ok(script) if script.len() < SCRIPT_BYTES => print_answers(streams, script),
+        _ => streams.say(b"UNREADABLE\n"),
     }
-    let size = came.size;
-    print_answers(streams, &script[..size]);
 }
 
 fn main(rt: HostRuntime) {
-    answer_all(&mut rt.stdin(), &mut standard(&rt));
+    answer_all(&mut rt.stdin(), &mut Streams::standard(&rt));
 }

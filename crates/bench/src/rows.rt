@@ -1,12 +1,13 @@
 // Room for a row.
 
-use crate::case::MOST;
+use crate::case::{MOST, Words};
+use crate::print;
 use crate::print::FILL;
-use crate::{case, print};
 use alu_rules::Outcome;
 use console::output::Streams;
+use console::refused::number_in;
 use register::Register;
-use row_rules::{Change, Flags, Row, Stage};
+use row_rules::{Flags, Row};
 use std::io::Write;
 use table::Pointer;
 
@@ -17,25 +18,29 @@ fn full_row() -> Row {
     };
     Row {
         cycle: 67,
-        fetch: Stage::Holds(0x1FF_FFFF),
-        decode: Stage::Empty,
-        execute: Stage::Holds(0xA1),
-        write: Stage::Empty,
+        fetch: Some(0x1FF_FFFF),
+        decode: None,
+        execute: Some(0xA1),
+        write: None,
         flags: Flags {
             rs1: true,
             rs2: false,
             rs3: true,
         },
-        change: Change::To(Pointer(31), outcome),
+        change: Some((Pointer(31), outcome)),
     }
 }
 
-pub(crate) fn answer(streams: &mut Streams<impl Write, impl Write>, line: &[u8]) {
-    let room = case::size(line, 1);
-    let start = case::start(line, 2);
+pub(crate) fn answer(
+    streams: &mut Streams<impl Write, impl Write>,
+    mut words: Words,
+) -> Option<()> {
+    let room = words.size()?;
+    let start = words.start()?;
+    words.end()?;
     let mut buffer = [FILL; MOST];
-    let row = full_row();
-    let refusal = row::write_row(&mut buffer[0..room], start, row);
-    print::number(streams, refusal as usize);
+    let written = row::write_row(&mut buffer[..room], start, full_row());
+    streams.print_field(number_in(&written));
     print::altered(streams, &buffer);
+    Some(())
 }

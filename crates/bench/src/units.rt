@@ -2,67 +2,42 @@
 
 ghost use Rattle.std.specs.Prelude.{◌≤◌};
 
-use crate::case::{LARGEST_START, MOST};
+use crate::case::{MOST, NAMED, Words};
+use crate::print;
 use crate::print::FILL;
-use crate::{case, print};
 use alu_rules::Outcome;
-use console::output;
 use console::output::Streams;
+use console::refused::number_in;
 use job_rules::Program;
 use register::Register;
-use script::Number;
 use std::io::Write;
 use table::{Count, Edition};
 use unit_record::latches::instruction;
 use unit_record::well_made;
 use unit_rules::{ExWb, IdEx, IfId, Operands, Unit};
 
-const LARGEST_NUMBER: usize = 0xFFFF_FFFF_FFFF_FFFF;
-
 // A job without lines and registers, which a load of a drained unit accepts.
 const NO_LINES: [u8; 8] = [0, 0, 0, 0, 8, 0, 8, 0];
 
-fn fetched(edition: Edition, word: Number) -> IfId {
-    if word.known {
-        return IfId::Holds(instruction(edition, word.value));
-    }
-    IfId::Empty
+fn fetched(edition: Edition, word: Option<u32>) -> IfId {
+    word.map(|word| instruction(edition, word))
 }
 
-fn decoded(edition: Edition, word: Number) -> IdEx {
-    let zero = Register::ZERO;
-    if word.known {
-        let operands = Operands {
-            first: zero,
-            second: zero,
-            third: zero,
-        };
-        return IdEx::Holds(instruction(edition, word.value), operands);
-    }
-    IdEx::Empty
+fn decoded(edition: Edition, word: Option<u32>) -> IdEx {
+    let operands = Operands {
+        first: Register::ZERO,
+        second: Register::ZERO,
+        third: Register::ZERO,
+    };
+    word.map(|word| (instruction(edition, word), operands))
 }
 
-fn executed(edition: Edition, word: Number) -> ExWb {
-    if word.known {
-        let outcome = Outcome {
-            value: Register::ZERO,
-            mark: 0xFF,
-        };
-        return ExWb::Holds(instruction(edition, word.value), outcome);
-    }
-    ExWb::Empty
-}
-
-fn program_of(edition: Edition, line: &[u8], from: usize) -> Program
-    requires { from ≤ 1 }
-{
-    let mut words = [0u32; 64];
-    case::put_words(line, from + 8, &mut words);
-    Program {
-        words,
-        n: Count(case::byte(line, from + 1)),
-        edition,
-    }
+fn executed(edition: Edition, word: Option<u32>) -> ExWb {
+    let outcome = Outcome {
+        value: Register::ZERO,
+        mark: 0xFF,
+    };
+    word.map(|word| (instruction(edition, word), outcome))
 }
 
 fn ones() -> Register {
@@ -74,69 +49,89 @@ fn ones() -> Register {
     }
 }
 
-// From that word of the line on. Its registers are all ones but for register 0, so that the zeros of a refusal show; the values in its latches are zeros, and the mark is
-// FF, which zeros never have: a latched mark is free.
-fn record_from(edition: Edition, first: Register, line: &[u8], from: usize) -> Unit
-    requires { from ≤ 1 }
-{
-    let mut registers = [ones(); 32];
-    registers[0] = first;
-    Unit {
-        program: program_of(edition, line, from),
-        count: Count(case::byte(line, from + 2)),
-        cycle: case::size(line, from + 3) as u32,
-        registers: registers,
-        fetched: fetched(edition, case::code(line, from + 5)),
-        decoded: decoded(edition, case::code(line, from + 6)),
-        executed: executed(edition, case::code(line, from + 7)),
-        gone: case::byte(line, from + 4) != 0,
+// Register 0, which a case of the second edition names.
+fn register_0(edition: Edition, words: &mut Words) -> Option<Register> {
+    match edition {
+        Edition::One => Some(ones()),
+        Edition::Two => Some(Register::from_row(words.row()?)),
     }
+}
+
+// Its registers are all ones but for register 0, so that the zeros of a refusal show; the values in its latches are zeros, and the mark is FF, which zeros never have: a
+// latched mark is free.
+fn record_of(edition: Edition, words: &mut Words) -> Option<Unit> {
+    let mut registers = [ones(); 32];
+    registers[0] = register_0(edition, words)?;
+    let lines = words.byte()?;
+    let count = words.byte()?;
+    let cycle = words.size()?;
+    let gone = words.byte()?;
+    let in_fetched = words.code()?;
+    let in_decoded = words.code()?;
+    let in_executed = words.code()?;
+    let named = words.program()?;
+    words.end()?;
+    let mut program = [0u32; 64];
+    program[..NAMED].copy_from_slice(&named);
+    Some(Unit {
+        program: Program {
+            words: program,
+            n: Count(lines),
+            edition,
+        },
+        count: Count(count),
+        cycle: cycle as u32,
+        registers,
+        fetched: fetched(edition, in_fetched),
+        decoded: decoded(edition, in_decoded),
+        executed: executed(edition, in_executed),
+        gone: gone != 0,
+    })
 }
 
 fn print_load(streams: &mut Streams<impl Write, impl Write>, u: Unit) {
     let loaded = unit::load(u, &NO_LINES);
-    output::print(streams, b"\nload =");
-    print::number(streams, loaded.refusal as usize);
-    print::number(streams, loaded.place);
+    streams.print(b"\nload =");
+    print::refusal_and_place(streams, &loaded.answer);
     print::unit(streams, loaded.unit);
 }
 
 fn print_go(streams: &mut Streams<impl Write, impl Write>, u: Unit) {
     let gone = unit::go(u);
-    output::print(streams, b"\ngo =");
-    print::number(streams, gone.refusal as usize);
+    streams.print(b"\ngo =");
+    streams.print_field(number_in(&gone.answer));
     print::unit(streams, gone.unit);
 }
 
 fn print_cycle(streams: &mut Streams<impl Write, impl Write>, u: Unit) {
     let cycled = unit::cycle(u);
-    output::print(streams, b"\ncycle =");
-    print::number(streams, cycled.refusal as usize);
+    streams.print(b"\ncycle =");
+    streams.print_field(number_in(&cycled.answer));
     print::unit(streams, cycled.unit);
 }
 
 fn print_run(streams: &mut Streams<impl Write, impl Write>, u: Unit) {
     let ran = unit::run(u, 1000);
-    output::print(streams, b"\nrun 1000 =");
-    print::number(streams, ran.refusal as usize);
-    print::number(streams, ran.made as usize);
+    streams.print(b"\nrun 1000 =");
+    streams.print_field(number_in(&ran.answer));
+    streams.print_field(ran.answer.unwrap_or(0));
     print::unit(streams, ran.unit);
 }
 
 fn print_register(streams: &mut Streams<impl Write, impl Write>, u: Unit, number: usize) {
     let held = unit::register_of(u, number);
-    output::print(streams, b"\nregister");
-    print::number(streams, number);
-    output::print(streams, b" =");
-    print::number(streams, held.refusal as usize);
-    print::register(streams, held.register);
+    streams.print(b"\nregister");
+    streams.print_field(number);
+    streams.print(b" =");
+    streams.print_field(number_in(&held));
+    print::register(streams, held.unwrap_or(Register::ZERO));
 }
 
 fn print_drained(streams: &mut Streams<impl Write, impl Write>, u: Unit) {
     let answer = unit::drained(u);
-    output::print(streams, b"\ndrained =");
-    print::number(streams, answer.refusal as usize);
-    print::number(streams, answer.drained as usize);
+    streams.print(b"\ndrained =");
+    streams.print_field(number_in(&answer));
+    streams.print_field(answer.unwrap_or(false) as u8);
 }
 
 fn print_cycle_row(
@@ -148,40 +143,44 @@ fn print_cycle_row(
     requires { room ≤ 800 }
 {
     let mut buffer = [FILL; MOST];
-    let cycled = trace_row::cycle_with_row(u, &mut buffer[0..room], start);
-    print::number(streams, cycled.refusal as usize);
+    let cycled = trace_row::cycle_with_row(u, &mut buffer[..room], start);
+    streams.print_field(number_in(&cycled.answer));
     print::altered(streams, &buffer);
     print::unit(streams, cycled.unit);
 }
 
-pub(crate) fn answer_cycle(streams: &mut Streams<impl Write, impl Write>, line: &[u8]) {
-    let u = record_from(Edition::One, ones(), b"record 1 0 0 1", 0);
-    print_cycle_row(streams, u, case::size(line, 1), case::start(line, 2));
+pub(crate) fn answer_cycle(
+    streams: &mut Streams<impl Write, impl Write>,
+    mut words: Words,
+) -> Option<()> {
+    let room = words.size()?;
+    let start = words.start()?;
+    words.end()?;
+    let u = record_of(Edition::One, &mut Words::of(b"1 0 0 1"))?;
+    print_cycle_row(streams, u, room, start);
+    Some(())
 }
 
 // Every call, each on the record as it is given.
 fn print_calls(streams: &mut Streams<impl Write, impl Write>, u: Unit) {
-    print::number(streams, well_made(u) as usize);
+    streams.print_field(well_made(u) as u8);
     print_load(streams, u);
     print_go(streams, u);
     print_cycle(streams, u);
-    output::print(streams, b"\ncycle-row 80 max =");
-    print_cycle_row(streams, u, 80, LARGEST_START);
+    streams.print(b"\ncycle-row 80 max =");
+    print_cycle_row(streams, u, 80, usize::MAX);
     print_run(streams, u);
-    print_register(streams, u, 31);
-    print_register(streams, u, 32);
-    print_register(streams, u, LARGEST_NUMBER);
+    for number in [31, 32, usize::MAX] {
+        print_register(streams, u, number);
+    }
     print_drained(streams, u);
 }
 
-pub(crate) fn answer_record(streams: &mut Streams<impl Write, impl Write>, line: &[u8]) {
-    print_calls(streams, record_from(Edition::One, ones(), line, 0));
-}
-
-pub(crate) fn answer_record_of_edition_2(
+pub(crate) fn answer_record(
     streams: &mut Streams<impl Write, impl Write>,
-    line: &[u8],
-) {
-    let first = Register::from_row(case::register(line, 1));
-    print_calls(streams, record_from(Edition::Two, first, line, 1));
+    edition: Edition,
+    mut words: Words,
+) -> Option<()> {
+    print_calls(streams, record_of(edition, &mut words)?);
+    Some(())
 }

@@ -2,9 +2,9 @@
 
 ghost use Rattle.std.specs.Prelude.{◌≤◌};
 
-use crate::case::MOST;
+use crate::case::{MOST, NAMED, Words};
+use crate::print;
 use crate::print::FILL;
-use crate::{case, print};
 use console::output::Streams;
 use std::io::Write;
 use table::Edition;
@@ -22,49 +22,42 @@ fn header_size(edition: Edition) -> usize
 fn print_written(
     streams: &mut Streams<impl Write, impl Write>,
     edition: Edition,
-    line: &[u8],
-    words: &[u32],
+    room: usize,
+    program: &[u32],
     registers: &[u8],
-) {
-    let room = case::size(line, 3);
+)
+    requires { room ≤ 800 }
+{
     let mut out = [FILL; MOST];
-    let written = job_writer::write_job(edition, words, registers, &mut out[0..room]);
-    print::number(streams, written.refusal as usize);
-    print::number(streams, written.place);
-    print::number(streams, written.size);
+    let written = job_writer::write_job(edition, program, registers, &mut out[..room]);
+    print::refusal_and_place(streams, &written);
+    streams.print_field(written.unwrap_or(0));
     print::altered(streams, &out);
-    print::front(streams, &out, header_size(edition));
+    print::front(streams, &out[..header_size(edition)]);
 }
 
-// The register bytes are zeros.
-pub(crate) fn answer(streams: &mut Streams<impl Write, impl Write>, line: &[u8]) {
-    let lines = case::size(line, 1);
-    let bytes = case::size(line, 2);
-    let mut words = [0u32; MOST];
-    case::put_words(line, 4, &mut words);
-    let registers = [0u8; MOST];
-    print_written(
-        streams,
-        Edition::One,
-        line,
-        &words[0..lines],
-        &registers[0..bytes],
-    );
-}
-
-// They are but for the first.
-pub(crate) fn answer_edition_2(streams: &mut Streams<impl Write, impl Write>, line: &[u8]) {
-    let lines = case::size(line, 1);
-    let bytes = case::size(line, 2);
-    let mut words = [0u32; MOST];
-    case::put_words(line, 5, &mut words);
+// The register bytes are zeros but for the first, which a case of the second edition names.
+pub(crate) fn answer(
+    streams: &mut Streams<impl Write, impl Write>,
+    edition: Edition,
+    mut words: Words,
+) -> Option<()> {
+    let lines = words.size()?;
+    let bytes = words.size()?;
+    let room = words.size()?;
+    let first = words.byte_of(edition)?;
+    let named = words.program()?;
+    words.end()?;
+    let mut program = [0u32; MOST];
+    program[..NAMED].copy_from_slice(&named);
     let mut registers = [0u8; MOST];
-    registers[0] = case::byte(line, 4);
+    registers[0] = first;
     print_written(
         streams,
-        Edition::Two,
-        line,
-        &words[0..lines],
-        &registers[0..bytes],
+        edition,
+        room,
+        &program[..lines],
+        &registers[..bytes],
     );
+    Some(())
 }

@@ -5,10 +5,9 @@ use mathlib.Core.Path.{◌≡◌, sym, ap, ◌∙◌}
 use mathlib.Core.List.{List, [], ◌∷◌, ◌++◌, append_assoc, append-nil}
 use native.Mathlib.Omega.{arith}
 use native.Mathlib.Nat.{le_refl}
-use native.Mathlib.Numerals.{add-one}
 use borrow.Rule.Slice.PartMut.{mid_of, post_of, put_mid, mid_len}
 use lib.ListN.{length, get_or, take, drop, set, length-append, length-drop, drop_of_length-le}
-use lib.Seq.{take_at, drop_at, drop-drop, take_all, take-suc, drop-cons, set_at, append_snoc, length-take-le}
+use lib.Seq.{take_at, drop_at, drop-drop, take_all, drop-cons, set_at, append_snoc}
 use Rattle.buffer.specs.Front.{at_front, from_start}
 
 module _ {A : Type 0} where
@@ -38,15 +37,6 @@ module _ {A : Type 0} where
       → put_mid a (length xs - a) xs ys ≡ at_front (p ++ q) old
   then_front a p q old xs ys n s e = put_from a q xs ys e ∙ then_from a p q old xs n s
 
-  -- the next element of s stored behind those before it
-  pub next_stored : (s old out : List A) (i : ℕ) (z : A) → length s ≤ length old → i < length s → out ≡ at_front (take i s) old
-      → set out i (get_or s i z) ≡ at_front (take (i + 1) s) old
-  next_stored s old out i z room h o =
-      let n : length (take i s) ≡ i = length-take-le i s (omega arith) in
-      let m : length (take (suc i) s) ≡ suc i = length-take-le (suc i) s h in
-      rw (o, n, add-one, m, take-suc s i z h, drop-cons old i z (omega arith))
-      (set_at (take i s) (get_or old i z) (drop (suc i) old) (get_or s i z) i n ∙ sym (append_snoc (take i s) (get_or s i z) (drop (suc i) old)))
-
   -- an element stored behind what stands at the front
   pub then_stored : (a : ℕ) (b : A) (p old xs : List A) → length p ≡ a → a < length old → xs ≡ at_front p old → set xs a b ≡ at_front (p ++ b ∷ []) old
   then_stored a b p old xs n h e =
@@ -61,10 +51,6 @@ module _ {A : Type 0} where
   pub all_fit_from : (a : ℕ) (p xs : List A) {ys : List A} → ys ≡ at_front (take (length (mid_of a (length xs - a) xs)) p) (mid_of a (length xs - a) xs)
       → a + length p ≤ length xs → ys ≡ at_front p (mid_of a (length xs - a) xs)
   all_fit_from a p xs e h = e ∙ all_fit p (mid_of a (length xs - a) xs) (omega (arith, mid_len a (length xs) xs (le_refl (length xs))))
-
--- a loop that has gone through its list: what it made of the elements before i it made of all
-pub through : {A B : Type 0} (f : List A → B) (s : List A) (i : ℕ) {x : B} → length s ≤ i → x ≡ f (take i s) → x ≡ f s
-through f s i g e = e ∙ ap f (take_all i s g)
 
 -- a loop that counts up to n has come to its end: what holds at i holds at n
 pub at_end : {A : Type 0} (f : ℕ → A) (i n : ℕ) {x : A} → i ≤ n → n ≤ i → x ≡ f i → x ≡ f n

@@ -1,80 +1,93 @@
 // What is printed behind a line: ` = ` and its answer, whose first number is the refusal where a unit is called.
 
-use console::output::{Stream, Streams, print, write_number};
+use console::output::Streams;
+use console::refused::number_in;
 use register::Register;
-use row::digits;
 use row::values::{register_text, register_word_text};
+use std::fmt::Display;
 use std::io::Write;
+use table::refusal::Refusal;
 
 // A line that is no call.
 pub(crate) fn unknown(streams: &mut Streams<impl Write, impl Write>) {
-    print(streams, b" = UNKNOWN\n");
+    streams.print(b" = UNKNOWN\n");
 }
 
 // A call for a file that cannot be read.
 pub(crate) fn unreadable(streams: &mut Streams<impl Write, impl Write>) {
-    print(streams, b" = UNREADABLE\n");
+    streams.print(b" = UNREADABLE\n");
 }
 
 // A line without an answer.
 pub(crate) fn nothing(streams: &mut Streams<impl Write, impl Write>) {
-    print(streams, b"\n");
+    streams.print(b"\n");
 }
 
-fn begin(streams: &mut Streams<impl Write, impl Write>, refusal: u32) {
-    print(streams, b" =");
-    write_number(streams, Stream::Output, refusal as u64);
+fn begin<T>(streams: &mut Streams<impl Write, impl Write>, answer: &Result<T, Refusal>) {
+    streams.print(b" =");
+    streams.print_field(number_in(answer));
 }
 
-pub(crate) fn refusal(streams: &mut Streams<impl Write, impl Write>, refusal: u32) {
-    begin(streams, refusal);
-    print(streams, b"\n");
+// An answer that has nothing beside the refusal.
+pub(crate) fn done<T>(streams: &mut Streams<impl Write, impl Write>, answer: &Result<T, Refusal>) {
+    begin(streams, answer);
+    streams.print(b"\n");
 }
 
-pub(crate) fn number(streams: &mut Streams<impl Write, impl Write>, refusal: u32, number: u64) {
-    begin(streams, refusal);
-    write_number(streams, Stream::Output, number);
-    print(streams, b"\n");
+pub(crate) fn number<T>(
+    streams: &mut Streams<impl Write, impl Write>,
+    answer: &Result<T, Refusal>,
+    number: impl Display + Drop,
+) {
+    begin(streams, answer);
+    streams.print_field(number);
+    streams.print(b"\n");
 }
 
 // A space, the register and a newline.
 fn end_with(streams: &mut Streams<impl Write, impl Write>, value: Register) {
-    print(streams, b" ");
-    print(streams, &register_text(value));
-    print(streams, b"\n");
+    streams.print(b" ");
+    streams.print(&register_text(value));
+    streams.print(b"\n");
 }
 
-pub(crate) fn value(streams: &mut Streams<impl Write, impl Write>, refusal: u32, value: Register) {
-    begin(streams, refusal);
-    end_with(streams, value);
+// A register, zero where it is refused.
+pub(crate) fn value(
+    streams: &mut Streams<impl Write, impl Write>,
+    answer: Result<Register, Refusal>,
+) {
+    begin(streams, &answer);
+    end_with(streams, answer.unwrap_or(Register::ZERO));
 }
 
 fn word(streams: &mut Streams<impl Write, impl Write>, value: u32) {
-    print(streams, b" ");
-    print(streams, &register_word_text(value));
+    streams.print(b" ");
+    streams.print(&register_word_text(value));
 }
 
 // Four words, and no refusal: what answers them refuses nothing.
 pub(crate) fn words(streams: &mut Streams<impl Write, impl Write>, values: [u32; 4]) {
-    print(streams, b" =");
-    word(streams, values[0]);
-    word(streams, values[1]);
-    word(streams, values[2]);
-    word(streams, values[3]);
-    print(streams, b"\n");
+    streams.print(b" =");
+    for value in values {
+        word(streams, value);
+    }
+    streams.print(b"\n");
 }
 
 // The row stands on the next line, and only where there is one.
-pub(crate) fn row(streams: &mut Streams<impl Write, impl Write>, refusal: u32, row: &[u8]) {
-    begin(streams, refusal);
-    print(streams, b"\n");
-    if refusal == 0 {
-        print(streams, row);
+pub(crate) fn row(
+    streams: &mut Streams<impl Write, impl Write>,
+    answer: &Result<(), Refusal>,
+    row: &[u8],
+) {
+    done(streams, answer);
+    if answer.is_ok() {
+        streams.print(row);
     }
 }
 
-fn list_register(streams: &mut Streams<impl Write, impl Write>, number: u32, value: Register) {
-    print(streams, &[digits::tens(number), digits::units(number)]);
+fn list_register(streams: &mut Streams<impl Write, impl Write>, number: usize, value: Register) {
+    streams.print_value(format_args!("{number:02}"));
     end_with(streams, value);
 }
 
@@ -83,8 +96,7 @@ pub(crate) fn list_registers(
     streams: &mut Streams<impl Write, impl Write>,
     registers: [Register; 32],
 ) {
-    for number in 0..32 {
-        let value = registers[number];
-        list_register(streams, number as u32, value);
+    for (number, value) in registers.iter().enumerate() {
+        list_register(streams, number, *value);
     }
 }

@@ -7,33 +7,31 @@ use std::io::Write;
 use unit_rules::Unit;
 
 pub(crate) fn register(streams: &mut Streams<impl Write, impl Write>, u: Unit, words: &[u8]) {
-    let number = decimal(words);
-    if !number.known {
+    let Some(number) = decimal(words) else {
         answers::unknown(streams);
         return;
-    }
-    let held = unit::register_of(u, number.value as usize);
-    answers::value(streams, held.refusal, held.register);
+    };
+    let held = unit::register_of(u, number as usize);
+    answers::value(streams, held);
 }
 
 pub(crate) fn registers(streams: &mut Streams<impl Write, impl Write>, u: Unit) {
     let registers = u.registers;
-    answers::refusal(streams, 0);
+    answers::done(streams, &Ok(()));
     answers::list_registers(streams, registers);
 }
 
 pub(crate) fn drained(streams: &mut Streams<impl Write, impl Write>, u: Unit) {
-    let asked = unit::drained(u);
-    let yes = asked.drained as u64;
-    answers::number(streams, asked.refusal, yes);
+    let drained = unit::drained(u);
+    answers::number(streams, &drained, drained.unwrap_or(false) as u8);
 }
 
 // The ones of a word, step by step; a word has eight digits, zeros in front too. The unit has no part in it.
 pub(crate) fn ones(streams: &mut Streams<impl Write, impl Write>, digits: &[u8]) {
-    let word = hex(digits);
-    if digits.len() != 8 || !word.known {
-        answers::unknown(streams);
-        return;
+    match hex(digits) {
+        Some(word) if digits.len() == 8 => {
+            answers::words(streams, alu_lanes::ones::by_step(word));
+        }
+        _ => answers::unknown(streams),
     }
-    answers::words(streams, alu_lanes::ones::by_step(word.value));
 }

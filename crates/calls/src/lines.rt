@@ -1,50 +1,22 @@
 // The lines of standard input. They come in pieces, and a line may begin in one piece and end in another, so what is printed is printed as it comes.
 
-ghost use Rattle.std.specs.Prelude.{◌≤◌, length};
-
 use crate::answers;
 use crate::calls::answered;
-use console::arguments::PATH_MAX;
+use crate::kept::{Kept, ROOM};
 use console::input::read_open;
-use console::output::{Streams, print, say};
-use script::line_end;
+use console::output::Streams;
+use script::first_line;
 use std::io::{Read, Write};
 use std::rt::Files;
 use unit_rules::Unit;
 
-// What is kept of a line: one byte more than `load ` and the longest path have, since PATH_MAX counts the zero byte behind a path. A line that fills it is no call, whatever
-// follows.
-const ROOM: usize = PATH_MAX + 5;
-
 // The bytes of a piece.
 const PIECE: usize = 4096;
 
-// The unit, and how many bytes are kept of the line that has not ended yet.
-#[derive(Clone, Copy)]
-struct Progress {
-    unit: Unit,
-    kept: usize,
-}
-
-// Prints a part of a line, and keeps it behind what is kept of the line already, as far as there is room. Answers how much is kept then.
-fn take_part(
-    streams: &mut Streams<impl Write, impl Write>,
-    line: &mut [u8],
-    kept: usize,
-    part: &[u8],
-) -> usize
-    requires { kept ≤ length line.old }
-    ensures { result ≤ length line.new }
-{
-    print(streams, part);
-    let mut size = kept;
-    let mut i = 0;
-    while i < part.len() && size < line.len() {
-        line[size] = part[i];
-        size += 1;
-        i += 1;
-    }
-    size
+// Prints a part of a line, and keeps it.
+fn take_part(streams: &mut Streams<impl Write, impl Write>, line: &mut Kept, part: &[u8]) {
+    streams.print(part);
+    line.keep(part);
 }
 
 fn end_line(
@@ -60,54 +32,35 @@ fn end_line(
     u
 }
 
-// Where the line that begins there ends, or the piece does.
-fn end_in(piece: &[u8], at: usize) -> usize
-    requires { at ≤ length piece.now }
-    ensures { (at ≤ result) × (result ≤ length piece.now) }
-{
-    line_end(piece, at)
-}
-
-// All lines that end in the piece.
+// All lines that end in the piece. What stands behind the last of them is kept.
 fn take_piece(
     files: &impl Files,
     streams: &mut Streams<impl Write, impl Write>,
-    before: Progress,
-    line: &mut [u8],
+    before: Unit,
+    line: &mut Kept,
     piece: &[u8],
-) -> Progress
-    requires { before.kept ≤ length line.old }
-    ensures { result.kept ≤ length line.new }
-{
-    let mut u = before.unit;
-    let mut kept = before.kept;
-    let mut at = 0;
-    while at < piece.len() {
-        let end = end_in(piece, at);
-        kept = take_part(streams, line, kept, &piece[at..end]);
-        at = end;
-        if end < piece.len() {
-            at = end + 1;
-            let after = end_line(files, streams, u, &line[..kept]);
-            u = after;
-            kept = 0;
-        }
+) -> Unit {
+    let mut u = before;
+    let mut rest = piece;
+    while let (last, Some(behind)) = first_line(rest) {
+        take_part(streams, line, last);
+        u = end_line(files, streams, u, line.bytes());
+        line.clear();
+        rest = behind;
     }
-    Progress { unit: u, kept }
+    take_part(streams, line, rest);
+    u
 }
 
 // A last line without a newline is a line too.
 fn end_all(
     files: &impl Files,
     streams: &mut Streams<impl Write, impl Write>,
-    last: Progress,
+    u: Unit,
     line: &[u8],
-)
-    requires { last.kept ≤ length line.now }
-{
-    let kept = last.kept;
-    if kept > 0 {
-        end_line(files, streams, last.unit, &line[..kept]);
+) {
+    if !line.is_empty() {
+        end_line(files, streams, u, line);
     }
 }
 
@@ -117,24 +70,18 @@ pub(crate) fn answer_all(
     input: &mut impl Read,
     streams: &mut Streams<impl Write, impl Write>,
 ) {
-    let mut progress = Progress {
-        unit: unit::fresh(),
-        kept: 0,
-    };
-    let mut line = [0u8; ROOM];
-    let mut piece = [0u8; PIECE];
+    let mut u = unit::fresh();
+    let mut line = Kept::new();
+    let mut room = [0u8; PIECE];
     for _ in 0..u64::MAX {
-        let came = read_open(input, &mut piece);
-        if came.failed {
-            say(streams, b"UNREADABLE\n");
-            return;
+        match read_open(input, &mut room) {
+            Err(_) => {
+                streams.say(b"UNREADABLE\n");
+                return;
+            }
+            Ok([]) => break,
+            Ok(piece) => u = take_piece(files, streams, u, &mut line, piece),
         }
-        let size = came.size;
-        if size == 0 {
-            break;
-        }
-        let after = take_piece(files, streams, progress, &mut line, &piece[..size]);
-        progress = after;
     }
-    end_all(files, streams, progress, &line);
+    end_all(files, streams, u, line.bytes());
 }

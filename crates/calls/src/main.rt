@@ -5,11 +5,12 @@
 mod answers;
 mod ask;
 mod calls;
+mod kept;
 mod lines;
 mod make;
 
-use console::output::standard;
+use console::output::Streams;
 
 fn main(rt: HostRuntime) {
-    lines::answer_all(&rt, &mut rt.stdin(), &mut standard(&rt));
+    lines::answer_all(&rt, &mut rt.stdin(), &mut Streams::standard(&rt));
 }

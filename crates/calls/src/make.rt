@@ -2,7 +2,8 @@
 
 use crate::answers;
 use console::input::read_named;
-use console::output::{Streams, say_unreadable};
+use console::output::Streams;
+use console::refused::place_in;
 use job_reader::BYTES_TO_READ;
 use row::ROW_SIZE;
 use script::decimal;
@@ -18,13 +19,13 @@ pub(crate) fn fresh(streams: &mut Streams<impl Write, impl Write>) -> Unit {
 
 pub(crate) fn go(streams: &mut Streams<impl Write, impl Write>, u: Unit) -> Unit {
     let gone = unit::go(u);
-    answers::refusal(streams, gone.refusal);
+    answers::done(streams, &gone.answer);
     gone.unit
 }
 
 pub(crate) fn cycle(streams: &mut Streams<impl Write, impl Write>, u: Unit) -> Unit {
     let cycled = unit::cycle(u);
-    answers::refusal(streams, cycled.refusal);
+    answers::done(streams, &cycled.answer);
     cycled.unit
 }
 
@@ -32,24 +33,23 @@ pub(crate) fn cycle(streams: &mut Streams<impl Write, impl Write>, u: Unit) -> U
 pub(crate) fn row(streams: &mut Streams<impl Write, impl Write>, u: Unit) -> Unit {
     let mut text = [0u8; ROW_SIZE];
     let cycled = trace_row::cycle_with_row(u, &mut text, 0);
-    answers::row(streams, cycled.refusal, &text);
+    answers::row(streams, &cycled.answer, &text);
     cycled.unit
 }
 
 pub(crate) fn run(streams: &mut Streams<impl Write, impl Write>, u: Unit, words: &[u8]) -> Unit {
-    let budget = decimal(words);
-    if !budget.known {
+    let Some(budget) = decimal(words) else {
         answers::unknown(streams);
         return u;
-    }
-    let ran = unit::run(u, budget.value);
-    answers::number(streams, ran.refusal, ran.made as u64);
+    };
+    let ran = unit::run(u, budget);
+    answers::number(streams, &ran.answer, ran.answer.unwrap_or(0));
     ran.unit
 }
 
 fn load_file(streams: &mut Streams<impl Write, impl Write>, u: Unit, file: &[u8]) -> Unit {
     let loaded = unit::load(u, file);
-    answers::number(streams, loaded.refusal, loaded.place as u64);
+    answers::number(streams, &loaded.answer, place_in(&loaded.answer));
     loaded.unit
 }
 
@@ -60,17 +60,15 @@ pub(crate) fn load(
     u: Unit,
     name: &[u8],
 ) -> Unit {
-    if name.len() == 0 {
+    if name.is_empty() {
         answers::unknown(streams);
         return u;
     }
-    let mut file = [0u8; BYTES_TO_READ];
-    let came = read_named(files, name, &mut file);
-    if came.failed {
+    let mut room = [0u8; BYTES_TO_READ];
+    let Ok(file) = read_named(files, name, &mut room) else {
         answers::unreadable(streams);
-        say_unreadable(streams, name);
+        streams.say_unreadable(name);
         return u;
-    }
-    let size = came.size;
-    load_file(streams, u, &file[..size])
+    };
+    load_file(streams, u, file)
 }

@@ -3,17 +3,22 @@
 use Rattle.std.specs.Prelude.{ℕ, ◌≡◌, List, ◌++◌, Option, codes, decimal}
 use Rattle.std.specs.Io.KnownBytes.{Appends}
 use Rattle.console.specs.declared.output.Streams.{Streams}
-use Rattle.console.specs.declared.output.Stream.{Stream}
-use Rattle.console.specs.declared.output.Stream.TheVariants.{Output, Error}
 
--- the stream that was asked for holds the bytes behind what it held, and the other is as it was; the functions say what a stream holds, where that is known
-abbrev pub Wrote : {O E : Type 0} → (O → Option (List ℕ)) → (E → Option (List ℕ)) → Stream → Streams O E → Streams O E → List ℕ → Type 0
-Wrote held held_too Output before after text = Appends (held before.output) (held after.output) text × (after.error ≡ before.error)
-Wrote held held_too Error before after text = Appends (held_too before.error) (held_too after.error) text × (after.output ≡ before.output)
+-- standard output holds the bytes behind what it held, and standard error is as it was; the function says what a stream holds, where that is known
+abbrev pub Printed : {O E : Type 0} → (O → Option (List ℕ)) → Streams O E → Streams O E → List ℕ → Type 0
+Printed held before after text = Appends (held before.output) (held after.output) text × (after.error ≡ before.error)
 
--- a space and the number's decimal digits, as the fields of a line are written
+-- standard error holds them, and standard output is as it was
+abbrev pub Told : {O E : Type 0} → (E → Option (List ℕ)) → Streams O E → Streams O E → List ℕ → Type 0
+Told held before after text = Appends (held before.error) (held after.error) text × (after.output ≡ before.output)
+
+-- a field of a line: a space and its text
+abbrev pub field : List ℕ → List ℕ
+field text = codes " " ++ text
+
+-- a number as a field, in decimal digits
 abbrev pub number_text : ℕ → List ℕ
-number_text n = codes " " ++ decimal n
+number_text n = field (decimal n)
 
 -- a line that says with which number something is refused
 abbrev pub refused_text : ℕ → List ℕ

@@ -1,10 +1,9 @@
 // Files that are named as arguments, by the argument's number. Argument 0 is the program's own name.
 
-ghost use Rattle.std.specs.Prelude.{◌≡◌, ◌≤◌, length};
-ghost use Rattle.console.specs.Input.{CameInto};
+ghost use Rattle.std.specs.Prelude.{◌≡◌, ◌≤◌, IfOk, length};
 
-use crate::input::{Came, read_named};
-use crate::output::{Streams, print, say_unreadable};
+use crate::input::{Unreadable, read_named};
+use crate::output::Streams;
 use std::env::FillError;
 use std::io::Write;
 use std::rt::{Env, Files};
@@ -17,11 +16,12 @@ pub fn is_argument<A: Env>(arguments: &A, number: usize) -> bool {
     !matches!(arguments.arg(number, &mut []), Err(FillError::NotPresent))
 }
 
-// The bytes of an argument, at the front of the buffer, and how many there are. Of one that is longer than the buffer, or that is not there, there are none.
-pub fn read_name<A: Env>(arguments: &A, number: usize, name: &mut [u8]) -> usize
-    ensures { result ≤ length name.new }
+// The bytes of an argument. Of one that is longer than the room, or that is not there, there are none.
+pub fn name_of<'a, A: Env>(arguments: &A, number: usize, room: &'a mut [u8]) -> &'a [u8]
+    ensures { length result.now ≤ length room.old }
 {
-    arguments.arg(number, name).unwrap_or(0)
+    let size = arguments.arg(number, room).unwrap_or(0);
+    &room[..size]
 }
 
 // An argument on a line of its own. Of one that is longer than any path nothing is known but that it names no file: its line is empty.
@@ -30,27 +30,49 @@ pub fn print_argument<A: Env, O: Write, E: Write>(
     streams: &mut Streams<O, E>,
     number: usize,
 ) {
-    let mut name = [0u8; PATH_MAX];
-    let length = read_name(arguments, number, &mut name);
-    print(streams, &name[..length]);
-    print(streams, b"\n");
+    streams.print(name_of(arguments, number, &mut [0u8; PATH_MAX]));
+    streams.print(b"\n");
 }
 
 // The bytes of the file of that name. Where it cannot be read, standard error says so.
-pub fn read_argument<R: Env + Files, O: Write, E: Write>(
+pub fn read_argument<'a, R: Env + Files, O: Write, E: Write>(
     rt: &R,
     streams: &mut Streams<O, E>,
     number: usize,
-    room: &mut [u8],
-) -> Came
-    ensures into { CameInto result room.new }
+    room: &'a mut [u8],
+) -> Result<&'a [u8], Unreadable>
+    ensures into { IfOk result (λ part. length part.now ≤ length room.old) }
     ensures output { streams.new.output ≡ streams.old.output }
 {
-    let mut name = [0u8; PATH_MAX];
-    let length = read_name(rt, number, &mut name);
-    let came = read_named(rt, &name[..length], room);
-    if came.failed {
-        say_unreadable(streams, &name[..length]);
+    let mut name_room = [0u8; PATH_MAX];
+    let name = name_of(rt, number, &mut name_room);
+    let read = read_named(rt, name, room);
+    if read.is_err() {
+        streams.say_unreadable(name);
     }
-    came
+    read
+}
+
+// For each file that is named, in their order: its name on a line, and then what is printed of its bytes, or where they cannot be read.
+pub fn for_each_file<R, O, E, F>(
+    rt: &R,
+    streams: &mut Streams<O, E>,
+    room: &mut [u8],
+    print_file: F,
+)
+where
+    R: Env + Files,
+    O: Write,
+    E: Write,
+    F: Fn(&mut Streams<O, E>, Result<&[u8], Unreadable>),
+    requires { F.IsAlwaysCallable print_file }
+{
+    for number in 1..usize::MAX {
+        if !is_argument(rt, number) {
+            return;
+        }
+        print_argument(rt, streams, number);
+        let file = read_argument(rt, streams, number, room);
+        print_file(streams, file);
+    }
 }

@@ -1,29 +1,18 @@
 // Reading into a lent buffer, in as many pieces as it comes in.
 
-ghost use Rattle.std.specs.Prelude.{◌≡◌, ◌<◌, IfOk, length, take};
+ghost use Rattle.std.specs.Prelude.{◌≡◌, ◌<◌, ◌≤◌, IfOk, length, take};
 ghost use Rattle.std.specs.Io.{ReadsAtMost};
 ghost use Rattle.std.specs.Io.KnownBytes.{Consumes, IsAtEnd};
-ghost use Rattle.console.specs.Input.{CameInto, CameFrom};
+ghost use Rattle.console.specs.Input.{CameInto, CameFrom, PartFrom};
 
-use crate::output::{Streams, say};
+use crate::output::Streams;
 use std::io::{ErrorKind, Read, Write};
 use std::rt::Files;
 use std::{fs, io};
 
-// How many bytes came, at the front of the buffer; or that the input could not be read, and then none.
+// An input that could not be read. What came of it before that is of no use.
 #[derive(Clone, Copy)]
-pub struct Came {
-    pub failed: bool,
-    pub size: usize,
-}
-
-impl Came {
-    // The input could not be read.
-    const FAILED: Came = Came {
-        failed: true,
-        size: 0,
-    };
-}
+pub struct Unreadable;
 
 // One read that no signal interrupts. A proved loop has to end, and nothing says that signals do, so it counts its turns down from a number that no run uses up.
 fn read_once<R: Read>(input: &mut R, room: &mut [u8]) -> io::Result<usize>
@@ -40,51 +29,61 @@ fn read_once<R: Read>(input: &mut R, room: &mut [u8]) -> io::Result<usize>
     Err(io::Error::from(ErrorKind::Interrupted))
 }
 
-// Reads until the input ends or the room is full.
-pub fn read_open<R: Read>(input: &mut R, room: &mut [u8]) -> Came
+// Reads until the input ends or the room is full: how many bytes came, at the front of the room.
+pub fn fill<R: Read>(input: &mut R, room: &mut [u8]) -> Result<usize, Unreadable>
     ensures into { CameInto result room.new }
     ensures bytes { CameFrom (R.remaining input.old) (R.remaining input.new) result room.new }
 {
     let mut size = 0;
     while size < room.len() {
         match read_once(input, &mut room[size..]) {
-            Err(_) => return Came::FAILED,
+            Err(_) => return Err(Unreadable),
             Ok(0) => break,
             Ok(more) => size += more,
         }
     }
-    Came {
-        failed: false,
-        size,
-    }
+    Ok(size)
+}
+
+// The same, and what came is handed out.
+pub fn read_open<'a, R: Read>(input: &mut R, room: &'a mut [u8]) -> Result<&'a [u8], Unreadable>
+    ensures into { IfOk result (λ part. length part.now ≤ length room.old) }
+    ensures bytes { IfOk result (λ part. PartFrom (R.remaining input.old) (R.remaining input.new) (length room.old) part.now) }
+{
+    let size = fill(input, room)?;
+    Ok(&room[..size])
 }
 
 // The same of standard input. Where it cannot be read, standard error says so.
-pub fn read_input<R: Read, O: Write, E: Write>(
+pub fn read_input<'a, R: Read, O: Write, E: Write>(
     input: &mut R,
     streams: &mut Streams<O, E>,
-    room: &mut [u8],
-) -> Came
-    ensures into { CameInto result room.new }
-    ensures bytes { CameFrom (R.remaining input.old) (R.remaining input.new) result room.new }
+    room: &'a mut [u8],
+) -> Result<&'a [u8], Unreadable>
+    ensures into { IfOk result (λ part. length part.now ≤ length room.old) }
+    ensures bytes { IfOk result (λ part. PartFrom (R.remaining input.old) (R.remaining input.new) (length room.old) part.now) }
     ensures output { streams.new.output ≡ streams.old.output }
 {
-    let came = read_open(input, room);
-    if came.failed {
-        say(streams, b"UNREADABLE\n");
+    let read = read_open(input, room);
+    if read.is_err() {
+        streams.say(b"UNREADABLE\n");
     }
-    came
+    read
 }
 
 // The same of the file of that name: one that cannot be opened cannot be read.
-pub fn read_named<F: Files>(files: &F, name: &[u8], room: &mut [u8]) -> Came
-    ensures { CameInto result room.new }
+pub fn read_named<'a, F: Files>(
+    files: &F,
+    name: &[u8],
+    room: &'a mut [u8],
+) -> Result<&'a [u8], Unreadable>
+    ensures { IfOk result (λ part. length part.now ≤ length room.old) }
 {
     let Ok(path) = str::from_utf8(name) else {
-        return Came::FAILED;
+        return Err(Unreadable);
     };
     match fs::open(files, path) {
         Ok(mut file) => read_open(&mut file, room),
-        Err(_) => Came::FAILED,
+        Err(_) => Err(Unreadable),
     }
 }

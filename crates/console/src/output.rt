@@ -2,7 +2,7 @@
 
 ghost use Rattle.std.specs.Prelude.{◌≡◌, IsOk, IfSome, take};
 ghost use Rattle.std.specs.Bool.{OnTrue};
-ghost use Rattle.console.specs.Output.{Wrote, number_text, refused_text, refused_line_text};
+ghost use Rattle.console.specs.Output.{Printed, Told, field};
 
 use std::fmt::Display;
 use std::io;
@@ -15,125 +15,83 @@ pub struct Streams<O: Write, E: Write> {
     pub error: E,
 }
 
-// The program's own.
-pub fn standard(rt: &HostRuntime) -> Streams<Stdout, Stderr> {
-    Streams {
-        output: rt.stdout(),
-        error: rt.stderr(),
+impl Streams<Stdout, Stderr> {
+    // The program's own.
+    pub fn standard(rt: &HostRuntime) -> Streams<Stdout, Stderr> {
+        Streams {
+            output: rt.stdout(),
+            error: rt.stderr(),
+        }
     }
 }
 
-// One of the two.
-#[derive(Clone, Copy)]
-pub enum Stream {
-    Output,
-    Error,
-}
-
-// To standard error. Where that fails there is nobody left to tell.
-pub fn say<O: Write, E: Write>(streams: &mut Streams<O, E>, text: &[u8])
-    ensures { streams.new.output ≡ streams.old.output }
-{
-    let _ = streams.error.write_all(text);
-}
-
-// Where not all could be written, standard error says so.
-fn tell<O: Write, E: Write>(streams: &mut Streams<O, E>, written: io::Result<()>) -> bool
-    ensures { OnTrue result (IsOk written × (streams.new ≡ streams.old)) }
-{
-    if written.is_err() {
-        say(streams, b"UNWRITTEN\n");
-        return false;
+// Each of these is a write of its own: where one fails, standard error says so, and the next is tried.
+impl<O: Write, E: Write> Streams<O, E> {
+    // To standard error. Where that fails there is nobody left to tell.
+    pub fn say(&mut self, text: &[u8])
+        ensures { self.new.output ≡ self.old.output }
+    {
+        let _ = self.error.write_all(text);
     }
-    true
-}
 
-// To one of the two. Where not all could be written, standard error says so.
-pub fn write<O: Write, E: Write>(streams: &mut Streams<O, E>, to: Stream, text: &[u8]) -> bool
-    ensures { OnTrue result (Wrote O.contents E.contents to streams.old streams.new text.now) }
-{
-    let written = match to {
-        Stream::Output => streams.output.write_all(text),
-        Stream::Error => streams.error.write_all(text),
-    };
-    tell(streams, written)
-}
-
-// The same of what a value is written as.
-fn write_value<O: Write, E: Write, D: Display + Drop>(
-    streams: &mut Streams<O, E>,
-    to: Stream,
-    value: D,
-) -> bool
-    ensures { OnTrue result (IfSome (D.output value) (Wrote O.contents E.contents to streams.old streams.new)) }
-{
-    let written = match to {
-        Stream::Output => streams.output.write_fmt(value),
-        Stream::Error => streams.error.write_fmt(value),
-    };
-    tell(streams, written)
-}
-
-// To standard output.
-pub fn print<O: Write, E: Write>(streams: &mut Streams<O, E>, text: &[u8]) -> bool
-    ensures { OnTrue result (Wrote O.contents E.contents Stream.Output streams.old streams.new text.now) }
-{
-    write(streams, Stream::Output, text)
-}
-
-// The first so many bytes, or all where there are fewer.
-pub fn print_front<O: Write, E: Write>(
-    streams: &mut Streams<O, E>,
-    text: &[u8],
-    size: usize,
-) -> bool
-    ensures { OnTrue result (Wrote O.contents E.contents Stream.Output streams.old streams.new (take size text.now)) }
-{
-    if size < text.len() {
-        return print(streams, &text[..size]);
+    // Where not all could be written, standard error says so.
+    fn is_written(&mut self, written: io::Result<()>) -> bool
+        ensures { OnTrue result (IsOk written × (self.new ≡ self.old)) }
+    {
+        if written.is_err() {
+            self.say(b"UNWRITTEN\n");
+            return false;
+        }
+        true
     }
-    print(streams, text)
-}
 
-// That the file of this name cannot be read.
-pub fn say_unreadable<O: Write, E: Write>(streams: &mut Streams<O, E>, name: &[u8])
-    ensures { streams.new.output ≡ streams.old.output }
-{
-    say(streams, b"UNREADABLE ");
-    say(streams, name);
-    say(streams, b"\n");
-}
+    // To standard output.
+    pub fn print(&mut self, text: &[u8]) -> bool
+        ensures { OnTrue result (Printed O.contents self.old self.new text.now) }
+    {
+        let written = self.output.write_all(text);
+        self.is_written(written)
+    }
 
-// A number behind a space, as the fields of a line are written.
-pub fn write_number<O: Write, E: Write>(
-    streams: &mut Streams<O, E>,
-    to: Stream,
-    number: u64,
-) -> bool
-    ensures { OnTrue result (Wrote O.contents E.contents to streams.old streams.new (number_text number)) }
-{
-    write_value(streams, to, format_args!(" {number}"))
-}
+    // The same of what a value is written as.
+    pub fn print_value<D: Display + Drop>(&mut self, value: D) -> bool
+        ensures { OnTrue result (IfSome (D.output value) (Printed O.contents self.old self.new)) }
+    {
+        let written = self.output.write_fmt(value);
+        self.is_written(written)
+    }
 
-// A line that says with which number something is refused.
-pub fn write_refused<O: Write, E: Write>(
-    streams: &mut Streams<O, E>,
-    to: Stream,
-    number: u32,
-) -> bool
-    ensures { OnTrue result (Wrote O.contents E.contents to streams.old streams.new (refused_text number)) }
-{
-    write_value(streams, to, format_args!("REFUSED {number}\n"))
-}
+    // The same to standard error.
+    pub fn tell_value<D: Display + Drop>(&mut self, value: D) -> bool
+        ensures { OnTrue result (IfSome (D.output value) (Told E.contents self.old self.new)) }
+    {
+        let written = self.error.write_fmt(value);
+        self.is_written(written)
+    }
 
-// The same, with the line that is at fault.
-pub fn write_refused_line<O: Write, E: Write>(
-    streams: &mut Streams<O, E>,
-    to: Stream,
-    number: u32,
-    line: usize,
-) -> bool
-    ensures { OnTrue result (Wrote O.contents E.contents to streams.old streams.new (refused_line_text number line)) }
-{
-    write_value(streams, to, format_args!("REFUSED {number} {line}\n"))
+    // The first so many bytes, or all where there are fewer. The type of a call's buffer does not say the size that the call answers, so it is handed on beside it.
+    pub fn print_front(&mut self, text: &[u8], size: usize) -> bool
+        ensures { OnTrue result (Printed O.contents self.old self.new (take size text.now)) }
+    {
+        if size < text.len() {
+            return self.print(&text[..size]);
+        }
+        self.print(text)
+    }
+
+    // What a value is written as behind a space, as the fields of a line are.
+    pub fn print_field<D: Display + Drop>(&mut self, value: D) -> bool
+        ensures { OnTrue result (IfSome (D.output value) (λ text. Printed O.contents self.old self.new (field text))) }
+    {
+        self.print_value(format_args!(" {value}"))
+    }
+
+    // That the file of this name cannot be read.
+    pub fn say_unreadable(&mut self, name: &[u8])
+        ensures { self.new.output ≡ self.old.output }
+    {
+        self.say(b"UNREADABLE ");
+        self.say(name);
+        self.say(b"\n");
+    }
 }

@@ -24,8 +24,5 @@ pub fn instructions_at(edition: Edition) -> usize
 pub fn may_hold(edition: Edition, register: Register) -> bool
     ensures { result ≡ may_hold edition register }
 {
-    if is_wired(edition, Pointer(0)) {
-        return register.is_zero();
-    }
-    true
+    !is_wired(edition, Pointer(0)) || register.is_zero()
 }

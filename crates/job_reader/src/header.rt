@@ -2,24 +2,19 @@
 
 ghost use Rattle.std.specs.Prelude.{◌+◌, ◌≤◌, cond, ◌≡◌, eqb, length};
 ghost use Rattle.table.specs.declared.Edition.TheVariants.{One, Two};
-ghost use Rattle.job_rules.specs.Layout.{instructions_at, two_of_bytes, two_at, edition_in, says_edition};
+ghost use Rattle.job_rules.specs.Layout.{instructions_at, two_at, edition_in, says_edition};
 ghost use Rattle.job_rules.specs.Read.{tested_of, header_of};
 
 use job_layout::instructions_at;
-use job_rules::Header;
-use table::{Count, Edition, refusal};
-
-fn two_of_bytes(b0: u8, b1: u8) -> usize
-    ensures { result ≡ two_of_bytes b0 b1 }
-{
-    (b0 as usize) + (b1 as usize) * 0x100
-}
+use job_rules::Counts;
+use table::refusal::Refusal;
+use table::{Count, Edition};
 
 fn two_at(l: &[u8], at: usize) -> usize
     requires { at + 2 ≤ length l.now }
     ensures { result ≡ two_at l.now at }
 {
-    two_of_bytes(l[at], l[at + 1])
+    usize::from(u16::from_le_bytes([l[at], l[at + 1]]))
 }
 
 // The edition that a first offset stands for. One that stands for neither is tested against the first edition's.
@@ -45,41 +40,52 @@ fn says_edition(l: &[u8], edition: Edition) -> bool
 }
 
 // The tests of a header that is there: 2, 3, the first offset's 4, 1 for a header that is longer, 14, the second offset's 4, and 5.
-fn tested(l: &[u8], edition: Edition, n: usize, r: usize, first: usize, second: usize) -> Header
+fn tested(
+    l: &[u8],
+    edition: Edition,
+    n: usize,
+    r: usize,
+    first: usize,
+    second: usize,
+) -> Result<Counts, Refusal>
     requires { 8 ≤ length l.now }
     ensures { result ≡ tested_of edition n r first (says_edition edition l.now) second (length l.now) }
 {
     let at = instructions_at(edition);
     if n > 64 {
-        return Header::Refused(refusal::COUNT);
+        return Err(Refusal::Count);
     }
     if r > 32 {
-        return Header::Refused(refusal::REGS);
+        return Err(Refusal::Regs);
     }
     if first != at {
-        return Header::Refused(refusal::PLACE);
+        return Err(Refusal::Place);
     }
     if l.len() < at {
-        return Header::Refused(refusal::SHORT);
+        return Err(Refusal::Short);
     }
     if !says_edition(l, edition) {
-        return Header::Refused(refusal::EDITION);
+        return Err(Refusal::Edition);
     }
     if second != at + 4 * n {
-        return Header::Refused(refusal::PLACE);
+        return Err(Refusal::Place);
     }
     if l.len() != at + 4 * n + 16 * r {
-        return Header::Refused(refusal::LENGTH);
+        return Err(Refusal::Length);
     }
-    Header::Counts(edition, Count(n as u8), r)
+    Ok(Counts {
+        edition,
+        n: Count(n as u8),
+        r,
+    })
 }
 
 // The header of a file: its edition and how many words and registers follow, or the refusal, 1 to 5 or 14.
-pub fn read_header(file: &[u8]) -> Header
+pub fn read_header(file: &[u8]) -> Result<Counts, Refusal>
     ensures { result ≡ header_of (edition_in file.now) file.now }
 {
     if file.len() < 8 {
-        return Header::Refused(refusal::SHORT);
+        return Err(Refusal::Short);
     }
     let n = two_at(file, 0);
     let r = two_at(file, 2);

@@ -1,6 +1,6 @@
 // Words of four bytes and registers of sixteen, least significant byte first, where they stand in a file.
 
-ghost use Rattle.std.specs.Prelude.{◌+◌, ◌≤◌, ◌≡◌, length, take, drop};
+ghost use Rattle.std.specs.Prelude.{◌+◌, ◌≤◌, ◌≡◌, length, drop};
 ghost use Rattle.register.specs.Layout.{word_at, of_bytes};
 
 use register::{Register, bytes};
@@ -12,22 +12,11 @@ pub(crate) fn word_at(l: &[u8], at: usize) -> u32
     bytes::word_of_bytes(l[at], l[at + 1], l[at + 2], l[at + 3])
 }
 
-fn sixteen_at(l: &[u8], at: usize) -> [u8; 16]
-    requires { at + 16 ≤ length l.now }
-    ensures { result ≡ take 16 (drop at l.now) }
-{
-    let mut bytes = [0u8; 16];
-    let mut i = 0;
-    while i < 16 {
-        bytes[i] = l[at + i];
-        i += 1;
-    }
-    bytes
-}
-
 pub(crate) fn register_at(l: &[u8], at: usize) -> Register
     requires { at + 16 ≤ length l.now }
     ensures { result ≡ of_bytes (drop at l.now) }
 {
-    Register::from_bytes(sixteen_at(l, at))
+    let mut bytes = [0u8; 16];
+    bytes.copy_from_slice(&l[at..at + 16]);
+    Register::from_bytes(bytes)
 }

@@ -9,13 +9,15 @@ use borrow.Fn.Kinds.{Dens, ended_of}
 use denote.Triple.Clauses.{Lasts, at_exit}
 use lib.ListN.{length, take}
 use Rattle.buffer.specs.Front.{at_front}
+use Rattle.std.specs.Prelude.{Result, Ok}
 use Rattle.table.specs.declared.Edition.{Edition}
-use Rattle.job_rules.specs.declared.ReadJob.{ReadJob}
-use Rattle.job_rules.specs.declared.Written.{Written}
+use Rattle.table.specs.declared.refusal.Refusal.{Refusal}
+use Rattle.job_rules.specs.declared.Job.{Job}
 use Rattle.job_rules.specs.Layout.{Bytes, register_count, registers_of}
-use Rattle.job_rules.specs.Read.{job_of, accepted_of, read_of}
+use Rattle.job_rules.specs.Read.{ReadJob, said_read, job_of, read_of}
 use Rattle.job_rules.specs.Program.{lines_of}
-use Rattle.job_rules.specs.Write.{written_of, write_of, register_bytes_of}
+use Rattle.job_rules.specs.Write.{Written, said_written, write_of, register_bytes_of}
+use Rattle.job_rules.proofs.Said.{unsaid_read, unsaid_written}
 use Rattle.job_rules.proofs.Theorems as reader
 use Rattle.job_reader.proofs.read_job.Kinds as read_kinds
 use Rattle.job_reader.proofs.read_job.Reads as read_reads
@@ -26,7 +28,7 @@ use Rattle.job_writer.proofs.write_job.Reads as write_reads
 pub record Reading : Type 1 where
   pub lifetimes : Lfts 1
   pub args : Dens lifetimes read_kinds.ps
-  pub answer : ReadJob
+  pub answer : Result Job Refusal
   pub lasts : Lasts (ended_of 1 read_kinds.ps read_kinds.r) lifetimes args
   pub meets : read_reads.Post lifetimes args answer (at_exit (ended_of 1 read_kinds.ps read_kinds.r) lifetimes args lasts)
 
@@ -37,7 +39,7 @@ file run = run.args.0.now
 pub record Writing : Type 1 where
   pub lifetimes : Lfts 3
   pub args : Dens lifetimes write_kinds.ps
-  pub answer : Written
+  pub answer : Result ℕ Refusal
   pub lasts : Lasts (ended_of 3 write_kinds.ps write_kinds.r) lifetimes args
   pub meets : write_reads.Post lifetimes args answer (at_exit (ended_of 3 write_kinds.ps write_kinds.r) lifetimes args lasts)
 
@@ -57,31 +59,34 @@ abbrev pub after : Writing → List ℕ
 after run = (at_exit (ended_of 3 write_kinds.ps write_kinds.r) run.lifetimes run.args run.lasts).1.1.1.0.now
 
 -- the two contracts, as equations
-read_is : (run : Reading) → run.answer ≡ read_of (file run)
+read_is : (run : Reading) → said_read run.answer ≡ read_of (file run)
 read_is run = run.meets
 
-write_is : (run : Writing) → (run.answer, after run) ≡ write_of (edition run) (words run) (bytes run) (before run)
+write_is : (run : Writing) → (said_written run.answer, after run) ≡ write_of (edition run) (words run) (bytes run) (before run)
 write_is run = run.meets
 
 -- Reading what the writer put at the front of a buffer gives the same job, in the same edition.
-pub read_written : (w : Writing) (r : Reading) → w.answer.refusal ≡ 0 → file r ≡ take w.answer.size (after w)
-    → r.answer ≡ accepted_of (job_of (edition w) (words w) (registers_of (register_count (bytes w)) (bytes w)))
-read_written w r e f =
-    read_is r
+pub read_written : (w : Writing) (r : Reading) {size : ℕ} → w.answer ≡ Ok size → file r ≡ take size (after w)
+    → r.answer ≡ Ok (job_of (edition w) (words w) (registers_of (register_count (bytes w)) (bytes w)))
+read_written w r {size} e f =
+    let is : (said_written (Ok size), after w) ≡ write_of (edition w) (words w) (bytes w) (before w)
+    = sym (ap (λ (a : Result ℕ Refusal). (said_written a, after w)) e) ∙ write_is w in
+    unsaid_read r.answer _
+    (read_is r
     ∙ ap read_of f
-    ∙ ap (λ (x : Written × List ℕ). read_of (take x.0.size x.1)) (write_is w)
-    ∙ reader.read_written (edition w) (words w) (bytes w) (before w) (sym (ap (λ (x : Written × List ℕ). x.0.refusal) (write_is w)) ∙ e)
+    ∙ ap (λ (x : Written × List ℕ). read_of (take x.0.size x.1)) is
+    ∙ reader.read_written (edition w) (words w) (bytes w) (before w) (sym (ap (λ (x : Written × List ℕ). x.0.refusal) is)))
 
 -- Writing what was read from an accepted file, in the edition that was read, gives the same bytes, and leaves those beyond them. A file lent as `&[u8]`
 -- has bytes below 2^8.
-pub written_read : (r : Reading) (w : Writing) → r.answer.refusal ≡ 0 → Bytes (file r) → edition w ≡ r.answer.job.program.edition
-    → words w ≡ lines_of r.answer.job.program → bytes w ≡ register_bytes_of r.answer.job → length (file r) ≤ length (before w)
-    → (w.answer ≡ written_of 0 0 (length (file r))) × (after w ≡ at_front (file r) (before w))
-written_read r w e b d f g room =
-    let is = read_is r in
-    let again : ◌≡◌ {A = Written × List ℕ} (w.answer, after w) (written_of 0 0 (length (file r)), at_front (file r) (before w))
+pub written_read : (r : Reading) (w : Writing) {job : Job} → r.answer ≡ Ok job → Bytes (file r) → edition w ≡ job.program.edition
+    → words w ≡ lines_of job.program → bytes w ≡ register_bytes_of job → length (file r) ≤ length (before w)
+    → (w.answer ≡ Ok (length (file r))) × (after w ≡ at_front (file r) (before w))
+written_read r w {job} e b d f g room =
+    let is : said_read (Ok job) ≡ read_of (file r) = sym (ap said_read e) ∙ read_is r in
+    let again : ◌≡◌ {A = Written × List ℕ} (said_written w.answer, after w) (said_written (Ok (length (file r))), at_front (file r) (before w))
     = write_is w
     ∙ (λ i. write_of ((d ∙ ap (λ (v : ReadJob). v.job.program.edition) is) i) ((f ∙ ap (λ (v : ReadJob). lines_of v.job.program) is) i)
     ((g ∙ ap (λ (v : ReadJob). register_bytes_of v.job) is) i) (before w))
-    ∙ reader.written_read (file r) (before w) b (sym (ap (λ (v : ReadJob). v.refusal) is) ∙ e) room in
-    (ap (λ (x : Written × List ℕ). x.0) again, ap (λ (x : Written × List ℕ). x.1) again)
+    ∙ reader.written_read (file r) (before w) b (sym (ap (λ (v : ReadJob). v.refusal) is)) room in
+    (unsaid_written w.answer _ (ap (λ (x : Written × List ℕ). x.0) again), ap (λ (x : Written × List ℕ). x.1) again)

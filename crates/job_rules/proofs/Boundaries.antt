@@ -9,9 +9,8 @@ use Rattle.table.specs.declared.Edition.{Edition}
 use Rattle.table.specs.declared.Edition.TheVariants.{One, Two}
 use Rattle.table.specs.Refusal.{first_bad}
 use Rattle.table.specs.Decided.{decided}
-use Rattle.job_rules.specs.declared.ReadJob.{ReadJob}
 use Rattle.job_rules.specs.Layout.{bytes_to_read, two_bytes, encode}
-use Rattle.job_rules.specs.Read.{tested_of, header_of, body_of, read_as, read_of}
+use Rattle.job_rules.specs.Read.{ReadJob, tested_of, header_of, body_of, read_as, read_of}
 use Rattle.job_rules.specs.Write.{size_or_refusal}
 
 -- a file of so many bytes whose header says these four numbers, with these bytes behind them and zeros behind those

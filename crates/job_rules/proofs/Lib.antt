@@ -3,6 +3,7 @@ pub mod Boundaries
 pub mod Pieces
 pub mod Refusals
 pub mod RoundTrip
+pub mod Said
 pub mod TooLong
 pub mod Zeros
 pub mod Theorems

@@ -115,22 +115,7 @@ word_behind l a b =
 pub word_there : (l : List ℕ) (a : ℕ) {w : ℕ} → w ≡ word_at l a → w ≡ word_at (drop a l) 0
 word_there l a e = e ∙ sym (word_behind l a 0 ∙ ap (word_at l) (add-zero a))
 
--- the 16 bytes of a register, one store after another
-pub next_byte : (l : List ℕ) (at i : ℕ) (xs : List ℕ) (x : ℕ) → i < 16 → at + 16 ≤ length l
-    → xs ≡ filled 16 0 (take i (drop at l)) → x ≡ get_or l (at + i) 0 → set xs i x ≡ filled 16 0 (take (i + 1) (drop at l))
-next_byte l at i xs x h room e f =
-    let behind = length-drop at l in
-    let n : length (take i (drop at l)) ≡ i = length-take-le i (drop at l) (omega arith) in
-    let stored = one_filled 16 0 x (take i (drop at l)) (omega arith) in
-    rw (e, add-one, take-suc (drop at l) i 0 (omega arith), get_or-drop at l i 0, ← f)
-    (ap (λ (j : ℕ). set (filled 16 0 (take i (drop at l))) j x) (sym n) ∙ stored)
-
-pub all_bytes : (l : List ℕ) (at : ℕ) → at + 16 ≤ length l → filled 16 0 (take 16 (drop at l)) ≡ take 16 (drop at l)
-all_bytes l at room =
-    let n = length-take-le 16 (drop at l) (omega (arith, length-drop at l)) in
-    rw n (append-nil (take 16 (drop at l)))
-
--- and they are all that it is made from
+-- the first 16 bytes are all that a register is made from
 pub register_there : (l : List ℕ) {b : List ℕ} {r : Register} → b ≡ take 16 l → r ≡ of_bytes b → r ≡ of_bytes l
 register_there l e f = f ∙ ap of_bytes e ∙ same (word 0 (omega arith)) (word 4 (omega arith)) (word 8 (omega arith)) (word 12 (omega arith))
   where
@@ -140,24 +125,15 @@ register_there l e f = f ∙ ap of_bytes e ∙ same (word 0 (omega arith)) (word
     word : (i : ℕ) → i + 3 < 16 → word_at (take 16 l) i ≡ word_at l i
     word i h = rw (byte i (omega arith), byte (i + 1) (omega arith), byte (i + 2) (omega arith), byte (i + 3) (omega arith))
 
--- register 0 of r registers: zero where there is none, and else made of the first bytes
-pub first_of_none : (r : ℕ) (l : List ℕ) → r ≡ 0 → zero_register ≡ get_or (registers_of r l) 0 zero_register
-first_of_none r l none = rw none
-
+-- register 0 of r registers, where there is one: made of the first bytes
 pub first_of_some : (r : ℕ) (l : List ℕ) {v : Register} → (r ≡ 0 → ⊥) → v ≡ of_bytes l → v ≡ get_or (registers_of r l) 0 zero_register
 first_of_some zero l some e = absurd (some refl)
 first_of_some (suc r) l some e = e
 
--- and of register bytes: none where they are too few for one, and else the first 16, which a buffer of 16 takes
-module _ (l : List ℕ) where
-  pub too_few_bytes : length l < 16 → zero_register ≡ get_or (registers_of (register_count l) l) 0 zero_register
-  too_few_bytes h = first_of_none (register_count l) l (omega arith)
-
-  pub first_sixteen : {v : Register} {b : List ℕ} → 16 ≤ length l → b ≡ at_front (take 16 l) (replicate 16 0) → v ≡ of_bytes b
-      → v ≡ get_or (registers_of (register_count l) l) 0 zero_register
-  first_sixteen h e f =
-      let sixteen : at_front (take 16 l) (replicate 16 0) ≡ take 16 l = rw (length-take-le 16 l h) (append-nil (take 16 l)) in
-      first_of_some (register_count l) l (λ none. omega arith) (register_there l (e ∙ sixteen) f)
+-- and of register bytes that are enough for one: made of the first 16
+pub first_sixteen : (l : List ℕ) {v : Register} {b : List ℕ} → 16 ≤ length l → b ≡ take 16 l → v ≡ of_bytes b
+    → v ≡ get_or (registers_of (register_count l) l) 0 zero_register
+first_sixteen l h e f = first_of_some (register_count l) l (λ none. omega arith) (register_there l e f)
 
 -- ---- a whole job
 

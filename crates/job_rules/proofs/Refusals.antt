@@ -2,13 +2,11 @@
 -- Assumes nothing.
 use Rattle.job_rules.proofs.Shared.{ℕ, ◌+◌, ◌*◌, ◌%◌, ◌≤◌, ◌<◌, ◌≡◌, refl, sym, ap, ◌∙◌, List, Bool, true, false, cond, not, arith}
 use Rattle.job_rules.proofs.Shared.{eq-eqb, ne_eqb, ltb-false, eqb-true, not-false, eqb, length, get_or, take, drop, take_at, at_front, Register}
-use Rattle.job_rules.proofs.Shared.{zero_register, word_at, of_bytes, Edition, One, Two, WORD, NONZERO, first_bad, Counts, Refused, Job, ReadJob, Written}
+use Rattle.job_rules.proofs.Shared.{zero_register, word_at, of_bytes, Edition, One, Two, WORD, NONZERO, first_bad, Counts, Ok, Err, Job, ReadJob, Written}
 use Rattle.job_rules.proofs.Shared.{instructions_at, registers_at, size_of, register_count, encode, two_at, edition_in, says_edition, words_in}
-use Rattle.job_rules.proofs.Shared.{registers_of, may_hold, filled, job_of, accepted_of, refused_of, tested_of, header_of, number_of, body_of, answer_for}
-use Rattle.job_rules.proofs.Shared.{read_as, written_of, size_or_refusal, write_of}
-use Rattle.table.specs.declared.Count.{Count}
+use Rattle.job_rules.proofs.Shared.{registers_of, may_hold, filled, job_of, accepted_of, refused_of, tested_of, header_of, header_number, body_of, answer_for}
+use Rattle.job_rules.proofs.Shared.{Header, read_as, written_of, size_or_refusal, write_of}
 use Rattle.table.proofs.Decided.{none_refused, neither_held, deciding}
-use Rattle.job_rules.specs.declared.Header.{Header}
 use Rattle.job_rules.proofs.Pieces.{length_pieces}
 
 -- ---- the header
@@ -19,11 +17,6 @@ pub by_numbers : (l : List ℕ) {edition : Edition} {n r first second : ℕ} {h 
     → h ≡ tested_of edition n r first (says_edition edition l) second (length l) → h ≡ header_of (edition_in l) l
 unfolding header_of
 by_numbers l en er ef es ee h = rw (← en, ← er, ← ef, ← es, ← ee) h
-
--- the cases of a header, as the reader goes on from them
-pub refused_header : (edition : Edition) (l : List ℕ) {h : Header} {k m : ℕ} {v : ReadJob}
-    → h ≡ header_of edition l → h ≡ Refused k → m ≡ number_of h → v ≡ refused_of m 0 → v ≡ read_as edition l
-refused_header edition l e f g o = o ∙ rw (g, ← e, f)
 
 -- ---- what is known of a file whose header is taken
 
@@ -37,10 +30,10 @@ pub record Taken (edition : Edition) (l : List ℕ) : Type 0 where
   pub right_second : two_at l 6 ≡ registers_at edition (two_at l 0)
   pub right_size : length l ≡ size_of edition (two_at l 0) (two_at l 2)
 
-pub header_taken : (edition : Edition) (l : List ℕ) → number_of (header_of edition l) ≡ 0 → Taken edition l
+pub header_taken : (edition : Edition) (l : List ℕ) → header_number (header_of edition l) ≡ 0 → Taken edition l
 unfolding header_of tested_of
 header_taken edition l e =
-    let passed = none_refused _ _ number_of refl e in
+    let passed = none_refused _ _ header_number refl e in
     let behind = passed.1.1.1 in
     record {
       whole = ltb-false (length l) 8 passed.0;
@@ -53,32 +46,23 @@ header_taken edition l e =
       right_size = eqb-true (length l) (size_of edition (two_at l 0) (two_at l 2)) (not-false _ behind.1.1.1.1.0);
     }
 
-pub header_counts : (edition : Edition) (l : List ℕ) → Taken edition l → Counts edition (record { 0 = two_at l 0 }) (two_at l 2) ≡ header_of edition l
+pub header_counts : (edition : Edition) (l : List ℕ) → Taken edition l → Ok (record { edition = edition; n = record { 0 = two_at l 0 }; r = two_at l 2 }) ≡ header_of edition l
 unfolding header_of tested_of
 header_counts edition l t = search deciding depth 12
 
 -- the counts that go on
-pub counts_fit : (edition : Edition) (l : List ℕ) (of : Edition) (n : Count) (r : ℕ) → header_of edition l ≡ Counts of n r
-    → (n.0 ≤ 64) × (r ≤ 32) × (size_of of n.0 r ≤ length l)
-counts_fit edition l of n r e =
-    let h = header_taken edition l (ap number_of e) in
-    let f : Counts edition (record { 0 = two_at l 0 }) (two_at l 2) ≡ Counts of n r = header_counts edition l h ∙ e in
-    let en : two_at l 0 ≡ n.0 = ap lines f in
-    let er : two_at l 2 ≡ r = ap registers f in
-    let at : instructions_at edition ≡ instructions_at of = ap start f in
+pub counts_fit : (edition : Edition) (l : List ℕ) (counts : Counts) → header_of edition l ≡ Ok counts
+    → (counts.n.0 ≤ 64) × (counts.r ≤ 32) × (size_of counts.edition counts.n.0 counts.r ≤ length l)
+counts_fit edition l counts e =
+    let h = header_taken edition l (ap header_number e) in
+    let f : record { edition = edition; n = record { 0 = two_at l 0 }; r = two_at l 2 } ≡ counts = ok_once (header_counts edition l h ∙ e) in
+    let en : two_at l 0 ≡ counts.n.0 = ap (λ (c : Counts). c.n.0) f in
+    let er : two_at l 2 ≡ counts.r = ap (λ (c : Counts). c.r) f in
+    let at : instructions_at edition ≡ instructions_at counts.edition = ap (λ (c : Counts). instructions_at c.edition) f in
     (omega arith, omega arith, omega arith)
   where
-    start : Header → ℕ
-    start (Counts e m s) = instructions_at e
-    start (Refused k) = 0
-
-    lines : Header → ℕ
-    lines (Counts e m s) = m.0
-    lines (Refused k) = 0
-
-    registers : Header → ℕ
-    registers (Counts e m s) = s
-    registers (Refused k) = 0
+    ok_once : {a b : Counts} → ◌≡◌ {A = Header} (Ok a) (Ok b) → a ≡ b
+    ok_once e = cc
 
 -- ---- the body
 
@@ -185,9 +169,9 @@ pub record Accepted (edition : Edition) (l : List ℕ) : Type 0 where
   pub good : two_at l 0 ≤ first_bad (words_in (two_at l 0) (drop (instructions_at edition) l))
   pub held : may_hold edition (get_or (registers_of (two_at l 2) (drop (registers_at edition (two_at l 0)) l)) 0 zero_register) ≡ true
 
-number_read : (l : List ℕ) (h : Header) → (answer_for l h).refusal ≡ 0 → number_of h ≡ 0
-number_read l (Refused k) e = e
-number_read l (Counts edition n r) e = refl
+number_read : (l : List ℕ) (h : Header) → (answer_for l h).refusal ≡ 0 → header_number h ≡ 0
+number_read l (Ok counts) e = refl
+number_read l (Err why) e = e
 
 pub accepted : (edition : Edition) (l : List ℕ) → (read_as edition l).refusal ≡ 0 → Accepted edition l
 unfolding body_of

@@ -16,18 +16,18 @@ pub use Rattle.register.specs.declared.Register.{Register}
 pub use Rattle.register.specs.Layout.{word_at, of_bytes, zero_register, bytes_of}
 pub use Rattle.table.specs.declared.Edition.{Edition}
 pub use Rattle.table.specs.declared.Edition.TheVariants.{One, Two}
-pub use Rattle.table.specs.Refusal.{COUNT, REGS, PLACE, LENGTH, WORD, EDITION, NONZERO}
+pub use Rattle.std.specs.Prelude.{Result, Ok, Err}
+pub use Rattle.table.specs.declared.refusal.Refusal.{Refusal}
+pub use Rattle.table.specs.Refusal.{number_of, place_of, COUNT, REGS, PLACE, LENGTH, WORD, EDITION, NONZERO}
 unfoldable pub use Rattle.table.specs.Refusal.{first_bad}
 pub use Rattle.job_rules.specs.Program.{lines_of, may_hold}
 pub use Rattle.job_rules.specs.Layout.{Bytes, instructions_at, four_bytes, header_bytes, register_count, pieces, registers_at, size_of, two_at}
 pub use Rattle.job_rules.specs.Layout.{edition_bytes, edition_in, says_edition}
 pub use Rattle.job_rules.specs.Layout.{words_in, registers_of, two_bytes, LARGEST}
 unfoldable pub use Rattle.job_rules.specs.Layout.{encode}
-pub use Rattle.job_rules.specs.Read.{filled, job_of, accepted_of, refused_of, number_of, answer_for, read_as, read_of}
+pub use Rattle.job_rules.specs.Read.{ReadJob, Header, filled, job_of, accepted_of, refused_of, said_read, header_number, answer_for, read_as, read_of}
 unfoldable pub use Rattle.job_rules.specs.Read.{tested_of, header_of, body_of}
-pub use Rattle.job_rules.specs.declared.Header.TheVariants.{Counts, Refused}
+pub use Rattle.job_rules.specs.declared.Counts.{Counts}
 pub use Rattle.job_rules.specs.declared.Job.{Job}
-pub use Rattle.job_rules.specs.declared.ReadJob.{ReadJob}
-pub use Rattle.job_rules.specs.declared.Written.{Written}
-pub use Rattle.job_rules.specs.Write.{written_of, register_bytes_of}
+pub use Rattle.job_rules.specs.Write.{Written, written_of, said_written, register_bytes_of}
 unfoldable pub use Rattle.job_rules.specs.Write.{size_or_refusal, write_of}

@@ -4,7 +4,7 @@
 -- Assumes nothing.
 use Rattle.job_rules.proofs.Shared.{ℕ, filled, ◌≤◌, ◌+◌, ◌*◌, le_refl, arith, ◌≡◌, refl, sym, ap, ◌∙◌, Bool, true, false, not, ◌||◌, List, []}
 use Rattle.job_rules.proofs.Shared.{◌∷◌, flat_map, ne_eqb, ltb, eqb, length, get_or, take, drop, replicate, take-append_seam, at_front, Register}
-use Rattle.job_rules.proofs.Shared.{zero_register, bytes_of, Edition, One, Two, PLACE, first_bad, Counts, Refused, Job, ReadJob, Written, Bytes}
+use Rattle.job_rules.proofs.Shared.{zero_register, bytes_of, Edition, One, Two, PLACE, first_bad, Ok, Err, Refusal, Job, ReadJob, Written, Bytes}
 use Rattle.job_rules.proofs.Shared.{instructions_at, LARGEST, registers_at, size_of, register_count, encode, two_at, edition_in, words_in, registers_of}
 use Rattle.job_rules.proofs.Shared.{lines_of, may_hold, job_of, accepted_of, refused_of, tested_of, header_of, body_of, answer_for, read_as, read_of}
 use Rattle.job_rules.proofs.Shared.{written_of, size_or_refusal, write_of, register_bytes_of}
@@ -146,7 +146,7 @@ first_readers_answer_4 l e =
     let few = t.few in
     let fewer = t.fewer in
     let other : two_at l 4 ≡ 8 → ⊥ = λ first. omega (arith, t.right_first) in
-    let answer : Refused PLACE ≡ header_of One l = search deciding depth 12 in
+    let answer : Err Refusal.Place ≡ header_of One l = search deciding depth 12 in
     sym (ap (answer_for l) answer)
 
 -- "There, register 0 is zero from load on": all that it may hold is zero,
@@ -193,9 +193,9 @@ read_before l =
 -- test by test: one offset after the other is one test of both, and a second test of the size and one that never refuses change nothing
 tests_as_before : (l : List ℕ) (short many more first second size : Bool)
     → answer_for l (decided
-    ((short, Refused 1) ∷ (many, Refused 2) ∷ (more, Refused 3) ∷ (first, Refused 4) ∷ (short, Refused 1) ∷ (false, Refused 14) ∷ (second, Refused 4)
-    ∷ (size, Refused 5) ∷ [])
-    (Counts One (record { 0 = two_at l 0 }) (two_at l 2)))
+    ((short, Err Refusal.Short) ∷ (many, Err Refusal.Count) ∷ (more, Err Refusal.Regs) ∷ (first, Err Refusal.Place) ∷ (short, Err Refusal.Short)
+    ∷ (false, Err Refusal.Edition) ∷ (second, Err Refusal.Place) ∷ (size, Err Refusal.Length) ∷ [])
+    (Ok (record { edition = One; n = record { 0 = two_at l 0 }; r = two_at l 2 })))
     ≡ decided
     ((short, refused_of 1 0) ∷ (many, refused_of 2 0) ∷ (more, refused_of 3 0) ∷ (first || second, refused_of 4 0) ∷ (size, refused_of 5 0)
     ∷ (ltb (first_bad (words_in (two_at l 0) (drop 8 l))) (two_at l 0), refused_of 6 (first_bad (words_in (two_at l 0) (drop 8 l)))) ∷ [])

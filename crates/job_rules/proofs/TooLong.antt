@@ -3,55 +3,54 @@
 -- Assumes nothing.
 use Rattle.job_rules.proofs.Shared.{ℕ, suc, ◌+◌, ◌≤◌, ◌<◌, arith, ◌≡◌, refl, sym, ap, ◌∙◌, Bool, true, false, cond, not, ◌&&◌, List, [], ◌∷◌}
 use Rattle.job_rules.proofs.Shared.{ltb-true, ltb-false, eqb-true, not-false, ltb, eqb, length, take, get_or-take, length-take-le, Edition, One, Two}
-use Rattle.job_rules.proofs.Shared.{COUNT, REGS, PLACE, LENGTH, EDITION, Refused, instructions_at, registers_at, size_of, LARGEST, two_at}
+use Rattle.job_rules.proofs.Shared.{Err, Refusal, Header, number_of, place_of, instructions_at, registers_at, size_of, LARGEST, two_at}
 use Rattle.job_rules.proofs.Shared.{edition_in, says_edition, refused_of, tested_of, header_of, answer_for, read_as, read_of}
 use lib.Seq.{take_all}
 use Rattle.table.specs.Decided.{decided}
 use Rattle.table.proofs.Decided.{apart, deciding}
-use Rattle.job_rules.specs.declared.Header.{Header}
 use Rattle.job_rules.specs.Layout.{bytes_to_read}
 
--- the number that counts, offsets and the edition's own bytes give a file that is too long
-abbrev number_for : Edition → ℕ → ℕ → ℕ → Bool → ℕ → ℕ
-number_for edition n r first says second =
+-- why a file that is too long is refused, by its counts, offsets and the edition's own bytes
+abbrev why_for : Edition → ℕ → ℕ → ℕ → Bool → ℕ → Refusal
+why_for edition n r first says second =
     decided
-    ((ltb 64 n, COUNT)
-    ∷ (ltb 32 r, REGS)
-    ∷ (not (eqb first (instructions_at edition)), PLACE)
-    ∷ (not says, EDITION)
-    ∷ (not (eqb second (registers_at edition n)), PLACE)
+    ((ltb 64 n, Refusal.Count)
+    ∷ (ltb 32 r, Refusal.Regs)
+    ∷ (not (eqb first (instructions_at edition)), Refusal.Place)
+    ∷ (not says, Refusal.Edition)
+    ∷ (not (eqb second (registers_at edition n)), Refusal.Place)
     ∷ [])
-    LENGTH
+    Refusal.Length
 
-abbrev number_by : Edition → List ℕ → ℕ
-number_by edition l = number_for edition (two_at l 0) (two_at l 2) (two_at l 4) (says_edition edition l) (two_at l 6)
+abbrev why_by : Edition → List ℕ → Refusal
+why_by edition l = why_for edition (two_at l 0) (two_at l 2) (two_at l 4) (says_edition edition l) (two_at l 6)
 
 -- no counts within the limits fill so much
 largest : (edition : Edition) (n r : ℕ) → n ≤ 64 → r ≤ 32 → size_of edition n r ≤ LARGEST
 largest One n r few fewer = omega arith
 largest Two n r few fewer = omega arith
 
-header_too_long : (edition : Edition) (l : List ℕ) → LARGEST < length l → header_of edition l ≡ Refused (number_by edition l)
+header_too_long : (edition : Edition) (l : List ℕ) → LARGEST < length l → header_of edition l ≡ Err (why_by edition l)
 unfolding header_of tested_of
 header_too_long edition l long =
     let header : instructions_at edition ≤ LARGEST = omega (arith, largest edition 0 0 (omega arith) (omega arith)) in
     apart _ _ P _ _ (λ short. let h : length l < 8 = ltb-true (length l) 8 short in absurd (omega arith)) (λ _.
-    apart _ _ P _ _ (λ a. ap Refused (search deciding depth 8)) (λ a.
-    apart _ _ P _ _ (λ b. ap Refused (search deciding depth 8)) (λ b.
-    apart _ _ P _ _ (λ d. ap Refused (search deciding depth 8)) (λ d.
+    apart _ _ P _ _ (λ a. ap Err (search deciding depth 8)) (λ a.
+    apart _ _ P _ _ (λ b. ap Err (search deciding depth 8)) (λ b.
+    apart _ _ P _ _ (λ d. ap Err (search deciding depth 8)) (λ d.
     apart _ _ P _ _ (λ short. let h = ltb-true (length l) (instructions_at edition) short in absurd (omega arith)) (λ _.
-    apart _ _ P _ _ (λ f. ap Refused (search deciding depth 8)) (λ f.
-    apart _ _ P _ _ (λ g. ap Refused (search deciding depth 8)) (λ g.
-    apart _ _ P _ _ (λ _. ap Refused (search deciding depth 8)) (λ h.
+    apart _ _ P _ _ (λ f. ap Err (search deciding depth 8)) (λ f.
+    apart _ _ P _ _ (λ g. ap Err (search deciding depth 8)) (λ g.
+    apart _ _ P _ _ (λ _. ap Err (search deciding depth 8)) (λ h.
     let few = ltb-false 64 (two_at l 0) a in
     let fewer = ltb-false 32 (two_at l 2) b in
     let size = eqb-true (length l) (size_of edition (two_at l 0) (two_at l 2)) (not-false _ h) in
     absurd (omega (arith, largest edition (two_at l 0) (two_at l 2) few fewer))))))))))
   where
     P : Header → Type 0
-    P h = h ≡ Refused (number_by edition l)
+    P h = h ≡ Err (why_by edition l)
 
-read_too_long : (edition : Edition) (l : List ℕ) → LARGEST < length l → read_as edition l ≡ refused_of (number_by edition l) 0
+read_too_long : (edition : Edition) (l : List ℕ) → LARGEST < length l → read_as edition l ≡ refused_of (number_of (why_by edition l)) (place_of (why_by edition l))
 read_too_long edition l long = ap (answer_for l) (header_too_long edition l long)
 
 -- what the first bytes say is the same of the file that is cut behind them
@@ -66,9 +65,9 @@ module _ (l : List ℕ) where
   says One = refl
   says Two = λ i. eqb (two 8 (omega arith) i) 2 && eqb (two 10 (omega arith) i) 0
 
-  number_cut : (edition : Edition) → number_by edition l ≡ number_by edition cut
-  number_cut edition =
-      λ i. number_for edition (two 0 (omega arith) i) (two 2 (omega arith) i) (two 4 (omega arith) i) (says edition i) (two 6 (omega arith) i)
+  why_cut : (edition : Edition) → why_by edition l ≡ why_by edition cut
+  why_cut edition =
+      λ i. why_for edition (two 0 (omega arith) i) (two 2 (omega arith) i) (two 4 (omega arith) i) (says edition i) (two 6 (omega arith) i)
 
   edition_cut : edition_in l ≡ edition_in cut
   edition_cut = λ i. cond (eqb (two 4 (omega arith) i) (instructions_at Two)) Two One
@@ -77,7 +76,7 @@ module _ (l : List ℕ) where
   first_bytes_decide : LARGEST < length l → read_of l ≡ read_of cut
   first_bytes_decide long =
       read_too_long (edition_in l) l long
-      ∙ ap (λ (k : ℕ). refused_of k 0) (number_cut (edition_in l))
+      ∙ ap (λ (why : Refusal). refused_of (number_of why) (place_of why)) (why_cut (edition_in l))
       ∙ sym (read_too_long (edition_in l) cut (omega (arith, length-take-le (suc LARGEST) l long)))
       ∙ ap (λ (edition : Edition). read_as edition cut) edition_cut
 

@@ -2,26 +2,27 @@
 -- what holds of each answer holds of the decision.
 -- Assumes nothing.
 use Rattle.job_rules.proofs.Shared.{ℕ, zero, suc, ◌-◌, ◌≤◌, le_of_suc-le-suc, not-suc-le-zero, ◌≡◌, refl, List, [], ◌∷◌, ◌++◌, length, get_or}
-use Rattle.job_rules.proofs.Shared.{drop, replicate, Register, zero_register, Edition, One, WORD, NONZERO, Counts, Refused, Job, ReadJob, Written}
+use Rattle.job_rules.proofs.Shared.{drop, replicate, Register, zero_register, Edition, One, WORD, Ok, Err, Refusal, Header, number_of, place_of, Job, ReadJob, Written}
 use Rattle.job_rules.proofs.Shared.{instructions_at, registers_at, edition_in, words_in, registers_of, filled, job_of, accepted_of, refused_of, body_of}
 use Rattle.job_rules.proofs.Shared.{answer_for, header_of, read_of, size_or_refusal, write_of}
 use Rattle.table.proofs.Decided.{each}
 use Rattle.table.proofs.Rows.{all_alike}
-use Rattle.job_rules.specs.declared.Header.{Header}
+use Rattle.table.proofs.Told.{placeless}
 
 -- ---- reading
 
--- an answer of the reader is a refusal without a place, one with 6, or a job
-every_answer : (P : ReadJob → Type 0) → ((number : ℕ) → P (refused_of number 0)) → ((place : ℕ) → P (refused_of WORD place))
+-- an answer of the reader is a refusal or a job
+every_answer : (P : ReadJob → Type 0) → ((why : Refusal) → P (refused_of (number_of why) (place_of why)))
     → ((edition : Edition) (words : List ℕ) (registers : List Register) → P (accepted_of (job_of edition words registers))) → (l : List ℕ) → P (read_of l)
 unfolding body_of
-every_answer P refused bad job l = go (header_of (edition_in l) l)
+every_answer P refused job l = go (header_of (edition_in l) l)
   where
     go : (h : Header) → P (answer_for l h)
-    go (Refused number) = refused number
-    go (Counts edition n r) =
-        each P _ _ (bad _, (refused NONZERO, tt))
-        (job edition (words_in n.0 (drop (instructions_at edition) l)) (registers_of r (drop (registers_at edition n.0) l)))
+    go (Ok counts) =
+        each P _ _ (refused (Refusal.Word _), (refused Refusal.Nonzero, tt))
+        (job counts.edition (words_in counts.n.0 (drop (instructions_at counts.edition) l))
+        (registers_of counts.r (drop (registers_at counts.edition counts.n.0) l)))
+    go (Err why) = refused why
 
 -- a job of zeros, which is of the first edition
 pub record Zeros (j : Job) : Type 0 where
@@ -34,7 +35,7 @@ pub record Zeros (j : Job) : Type 0 where
 -- "Every refusal returns its number and zeros elsewhere": a file that is refused comes back as a job of zeros.
 pub refused_zeros : (l : List ℕ) → ((read_of l).refusal ≡ 0 → ⊥) → Zeros (read_of l).job
 refused_zeros =
-    every_answer (λ (v : ReadJob). (v.refusal ≡ 0 → ⊥) → Zeros v.job) (λ _ _. zeros) (λ _ _. zeros) (λ _ _ _ h. absurd (h refl))
+    every_answer (λ (v : ReadJob). (v.refusal ≡ 0 → ⊥) → Zeros v.job) (λ _ _. zeros) (λ _ _ _ h. absurd (h refl))
   where
     zeros : Zeros (job_of One [] [])
     zeros = record { n = refl; words = refl; edition = refl; r = refl; registers = refl }
@@ -42,7 +43,7 @@ refused_zeros =
 -- "but for 6's place": with every other number, and with 0, the place is 0.
 pub place_read : (l : List ℕ) → ((read_of l).refusal ≡ WORD → ⊥) → (read_of l).place ≡ 0
 place_read =
-    every_answer (λ (v : ReadJob). (v.refusal ≡ WORD → ⊥) → v.place ≡ 0) (λ _ _. refl) (λ _ h. absurd (h refl)) (λ _ _ _ _. refl)
+    every_answer (λ (v : ReadJob). (v.refusal ≡ WORD → ⊥) → v.place ≡ 0) placeless (λ _ _ _ _. refl)
 
 none_behind : {A : Type 0} (size : ℕ) (none : A) (l : List A) (i : ℕ) → length l ≤ i → get_or (filled size none l) i none ≡ none
 none_behind {A} size none l i h = behind l i (size - length l) h
@@ -57,13 +58,13 @@ pub zero_beyond_n : (l : List ℕ) (i : ℕ) → (read_of l).job.program.n.0 ≤
     → get_or (read_of l).job.program.words i 0 ≡ 0
 zero_beyond_n l i =
     every_answer (λ (v : ReadJob). v.job.program.n.0 ≤ i → get_or v.job.program.words i 0 ≡ 0) (λ _. none_behind 64 0 [] i)
-    (λ _. none_behind 64 0 [] i) (λ _ words _. none_behind 64 0 words i) l
+    (λ _ words _. none_behind 64 0 words i) l
 
 pub zero_beyond_r : (l : List ℕ) (i : ℕ) → (read_of l).job.r ≤ i
     → get_or (read_of l).job.registers i zero_register ≡ zero_register
 zero_beyond_r l i =
     every_answer (λ (v : ReadJob). v.job.r ≤ i → get_or v.job.registers i zero_register ≡ zero_register) (λ _. none_behind 32 zero_register [] i)
-    (λ _. none_behind 32 zero_register [] i) (λ _ _ registers. none_behind 32 zero_register registers i) l
+    (λ _ _ registers. none_behind 32 zero_register registers i) l
 
 -- ---- writing
 

@@ -1,16 +1,15 @@
 -- What the reader answers, for every list of bytes.
 -- Assumes nothing.
-use Rattle.std.specs.Prelude.{ℕ, ◌-◌, Bool, not, List, [], ◌∷◌, ◌++◌, ltb, eqb, length, drop, get_or, replicate}
+use Rattle.std.specs.Prelude.{ℕ, ◌-◌, Bool, not, Result, Ok, Err, List, [], ◌∷◌, ◌++◌, ltb, eqb, length, drop, get_or, replicate}
 use Rattle.register.specs.declared.Register.{Register}
 use Rattle.register.specs.Layout.{zero_register}
 use Rattle.table.specs.declared.Edition.{Edition}
 use Rattle.table.specs.declared.Edition.TheVariants.{One}
-use Rattle.table.specs.Refusal.{SHORT, COUNT, REGS, PLACE, LENGTH, WORD, EDITION, NONZERO, first_bad}
+use Rattle.table.specs.declared.refusal.Refusal.{Refusal}
+use Rattle.table.specs.Refusal.{WORD, NONZERO, number_of, place_of, first_bad}
 use Rattle.table.specs.Decided.{decided}
-use Rattle.job_rules.specs.declared.Header.{Header}
-use Rattle.job_rules.specs.declared.Header.TheVariants.{Counts, Refused}
+use Rattle.job_rules.specs.declared.Counts.{Counts}
 use Rattle.job_rules.specs.declared.Job.{Job}
-use Rattle.job_rules.specs.declared.ReadJob.{ReadJob}
 use Rattle.job_rules.specs.Layout.{instructions_at, registers_at, size_of, two_at, edition_in, says_edition, words_in, registers_of}
 use Rattle.job_rules.specs.Program.{may_hold}
 
@@ -25,6 +24,12 @@ job_of edition words registers = record {
   r = length registers;
 }
 
+-- what reading a file answers: 0 and the job, or the number that it is refused with, with 6 the place of the first bad word, and a job of zeros
+pub record ReadJob : Type 0 where
+  pub refusal : ℕ
+  pub place : ℕ
+  pub job : Job
+
 -- "Success is 0"
 abbrev pub accepted_of : Job → ReadJob
 accepted_of j = record { refusal = 0; place = 0; job = j }
@@ -33,21 +38,30 @@ accepted_of j = record { refusal = 0; place = 0; job = j }
 abbrev pub refused_of : ℕ → ℕ → ReadJob
 refused_of number place = record { refusal = number; place = place; job = job_of One [] [] }
 
+-- what the call's answer says of it: for each case its number and its values
+abbrev pub said_read : Result Job Refusal → ReadJob
+said_read (Ok j) = accepted_of j
+said_read (Err why) = refused_of (number_of why) (place_of why)
+
+-- what a file's first bytes and its size say: the counts, or why the file is refused
+abbrev pub Header : Type 0
+Header = Result Counts Refusal
+
 -- what the four numbers of a header say of a file of so many bytes, and whether the edition's own bytes are there: "the first offset's 4; then 1 for an offset of 12 in
 -- under 12 bytes; then 14 for wrong bytes 8-11; then the second offset's 4", between tests 3 and 5
 unfoldable pub tested_of : Edition → ℕ → ℕ → ℕ → Bool → ℕ → ℕ → Header
 tested_of edition n r first says second size =
     decided
-    ((ltb size 8, Refused SHORT)
-    ∷ (ltb 64 n, Refused COUNT)
-    ∷ (ltb 32 r, Refused REGS)
-    ∷ (not (eqb first (instructions_at edition)), Refused PLACE)
-    ∷ (ltb size (instructions_at edition), Refused SHORT)
-    ∷ (not says, Refused EDITION)
-    ∷ (not (eqb second (registers_at edition n)), Refused PLACE)
-    ∷ (not (eqb size (size_of edition n r)), Refused LENGTH)
+    ((ltb size 8, Err Refusal.Short)
+    ∷ (ltb 64 n, Err Refusal.Count)
+    ∷ (ltb 32 r, Err Refusal.Regs)
+    ∷ (not (eqb first (instructions_at edition)), Err Refusal.Place)
+    ∷ (ltb size (instructions_at edition), Err Refusal.Short)
+    ∷ (not says, Err Refusal.Edition)
+    ∷ (not (eqb second (registers_at edition n)), Err Refusal.Place)
+    ∷ (not (eqb size (size_of edition n r)), Err Refusal.Length)
     ∷ [])
-    (Counts edition (record { 0 = n }) r)
+    (Ok (record { edition = edition; n = record { 0 = n }; r = r }))
 
 -- "Bytes 0-1: n, instruction count. 2-3: r, register count. 4-5: offset of the instructions. 6-7: offset of the registers"
 unfoldable pub header_of : Edition → List ℕ → Header
@@ -65,13 +79,13 @@ body_of edition l n r =
     (accepted_of (job_of edition words registers))
 
 -- for each case of the header its number, and the answer with its values: a refusal leaves at once, the counts go on
-abbrev pub number_of : Header → ℕ
-number_of (Refused number) = number
-number_of (Counts edition n r) = 0
+abbrev pub header_number : Header → ℕ
+header_number (Ok counts) = 0
+header_number (Err why) = number_of why
 
 abbrev pub answer_for : List ℕ → Header → ReadJob
-answer_for l (Refused number) = refused_of number 0
-answer_for l (Counts edition n r) = body_of edition l n.0 r
+answer_for l (Ok counts) = body_of counts.edition l counts.n.0 counts.r
+answer_for l (Err why) = refused_of (number_of why) (place_of why)
 
 -- "Reading and starting test 1 to 6 in that order": a reader of this edition alone, of which that of the first is document 01's
 abbrev pub read_as : Edition → List ℕ → ReadJob

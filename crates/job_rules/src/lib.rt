@@ -5,7 +5,7 @@
 use register::Register;
 use table::{Count, Edition};
 
-// A program: its n lines in front of 64 words, and the edition of the card that it is for.
+// A program: its n lines in front of 64 words, and the edition of the card that it is for. There is no heap, so n stands beside an array.
 #[derive(Clone, Copy)]
 pub struct Program {
     pub words: [u32; 64],
@@ -13,7 +13,7 @@ pub struct Program {
     pub edition: Edition,
 }
 
-// A job: a program and the first r registers. Zero beyond the n lines and the r registers.
+// A job: a program and the first r registers, beside an array for the same reason. Zero beyond the n lines and the r registers.
 #[derive(Clone, Copy)]
 pub struct Job {
     pub program: Program,
@@ -21,28 +21,10 @@ pub struct Job {
     pub r: usize,
 }
 
-// What reading a file answers: 0 and the job, or the number that it is refused with, with 6 the place of the first bad word, and a job of zeros and of the first
-// edition.
+// What an accepted header says: of which edition the file is, and how many words and how many registers follow.
 #[derive(Clone, Copy)]
-pub struct ReadJob {
-    pub refusal: u32,
-    pub place: usize,
-    pub job: Job,
-}
-
-// What writing a file answers: 0 and its size, or the number that the job is refused with, with 6 the place of the first bad word.
-#[derive(Clone, Copy)]
-pub struct Written {
-    pub refusal: u32,
-    pub place: usize,
-    pub size: usize,
-}
-
-// What a file's first bytes and its size say.
-#[derive(Clone, Copy)]
-pub enum Header {
-    // of which edition it is, and how many words and how many registers follow
-    Counts(Edition, Count, usize),
-    // the number that the file is refused with
-    Refused(u32),
+pub struct Counts {
+    pub edition: Edition,
+    pub n: Count,
+    pub r: usize,
 }

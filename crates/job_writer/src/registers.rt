@@ -13,13 +13,8 @@ fn put_registers(out: &mut [u8], registers: [Register; 32])
     requires { 512 ≤ length out.old }
     ensures { out.new ≡ at_front (flat_map bytes_of registers) out.old }
 {
-    let mut i = 0;
-    while i < 32 {
-        let register = registers[i];
-        let bytes = register.to_bytes();
-        let at = 16 * i;
-        put_front(&mut out[at..], &bytes);
-        i += 1;
+    for (i, register) in registers.iter().enumerate() {
+        put_front(&mut out[16 * i..], &register.to_bytes());
     }
 }
 
@@ -36,10 +31,8 @@ pub fn register_bytes(registers: [Register; 32]) -> [u8; 512]
 pub(crate) fn first_register(registers: &[u8]) -> Register
     ensures { result ≡ get_or (registers_of (register_count registers.now) registers.now) 0 zero_register }
 {
-    if registers.len() < 16 {
-        return Register::ZERO;
+    match registers.first_chunk() {
+        Some(bytes) => Register::from_bytes(*bytes),
+        None => Register::ZERO,
     }
-    let mut bytes = [0u8; 16];
-    put_front(&mut bytes, registers);
-    Register::from_bytes(bytes)
 }

@@ -4,22 +4,12 @@ ghost use Rattle.std.specs.Prelude.{◌≡◌, get_or};
 ghost use Rattle.register.specs.Layout.{zero_register};
 ghost use Rattle.job_rules.specs.Layout.{register_count, registers_of};
 ghost use Rattle.job_rules.specs.Program.{may_hold};
-ghost use Rattle.job_rules.specs.Write.{written_of, size_or_refusal};
+ghost use Rattle.job_rules.specs.Write.{said_written, size_or_refusal};
 
 use crate::registers::first_register;
 use job_layout::{instructions_at, may_hold};
-use job_rules::Written;
-use table::{Edition, refusal};
-
-fn refused(number: u32, place: usize) -> Written
-    ensures { result ≡ written_of number place 0 }
-{
-    Written {
-        refusal: number,
-        place,
-        size: 0,
-    }
-}
+use table::Edition;
+use table::refusal::{Refusal, first_bad};
 
 // Whether register 0 of the bytes may hold what they say.
 fn first_held(edition: Edition, registers: &[u8]) -> bool
@@ -29,32 +19,33 @@ fn first_held(edition: Edition, registers: &[u8]) -> bool
 }
 
 // What the writer answers to a job of this edition where the buffer has so many bytes: the size of the file, or the refusal.
-pub fn size_or_refusal(edition: Edition, words: &[u32], registers: &[u8], room: usize) -> Written
-    ensures { result ≡ size_or_refusal edition words.now registers.now room }
+pub fn size_or_refusal(
+    edition: Edition,
+    words: &[u32],
+    registers: &[u8],
+    room: usize,
+) -> Result<usize, Refusal>
+    ensures { said_written result ≡ size_or_refusal edition words.now registers.now room }
 {
     if words.len() > 64 {
-        return refused(refusal::COUNT, 0);
+        return Err(Refusal::Count);
     }
     if registers.len() > 512 {
-        return refused(refusal::REGS, 0);
+        return Err(Refusal::Regs);
     }
     if registers.len() % 16 != 0 {
-        return refused(refusal::REGS, 0);
+        return Err(Refusal::Regs);
     }
-    let bad = refusal::first_bad(words);
+    let bad = first_bad(words);
     if bad < words.len() {
-        return refused(refusal::WORD, bad);
+        return Err(Refusal::Word(bad));
     }
     if !first_held(edition, registers) {
-        return refused(refusal::NONZERO, 0);
+        return Err(Refusal::Nonzero);
     }
     let size = instructions_at(edition) + 4 * words.len() + registers.len();
     if room < size {
-        return refused(refusal::ROOM, 0);
+        return Err(Refusal::Room);
     }
-    Written {
-        refusal: 0,
-        place: 0,
-        size,
-    }
+    Ok(size)
 }

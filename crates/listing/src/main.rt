@@ -3,27 +3,24 @@
 #![tactic(auto)]
 
 use console::input::read_input;
-use console::output::{Stream, Streams, print_front, standard, write_refused};
+use console::output::Streams;
+use console::refused::Refused;
 use job_reader::BYTES_TO_READ;
 use std::io::{Read, Write};
 use text_writer::{LARGEST, list_job};
 
-fn print_listing<R: Read, O: Write, E: Write>(input: &mut R, streams: &mut Streams<O, E>) {
-    let mut file = [0u8; BYTES_TO_READ];
-    let came = read_input(input, streams, &mut file);
-    if came.failed {
+fn print_listing(input: &mut impl Read, streams: &mut Streams<impl Write, impl Write>) {
+    let mut room = [0u8; BYTES_TO_READ];
+    let Ok(file) = read_input(input, streams, &mut room) else {
         return;
-    }
-    let size = came.size;
+    };
     let mut text = [0u8; LARGEST];
-    let listed = list_job(&file[..size], &mut text);
-    if listed.refusal != 0 {
-        write_refused(streams, Stream::Error, listed.refusal);
-        return;
-    }
-    print_front(streams, &text, listed.size);
+    match list_job(file, &mut text) {
+        Ok(size) => streams.print_front(&text, size),
+        Err(why) => streams.tell_value(Refused(why)),
+    };
 }
 
 fn main(rt: HostRuntime) {
-    print_listing(&mut rt.stdin(), &mut standard(&rt));
+    print_listing(&mut rt.stdin(), &mut Streams::standard(&rt));
 }

@@ -1,26 +1,26 @@
 -- The rows of a file as registers, and registers as rows: a list filled from front to back with what a function makes of another's entries, and the plain machine in
 -- between. Carried by `take-suc`, the first entries and one more, and by `registers_as_rows`.
 -- Assumes nothing.
-use Prim.Native.Nat.{ℕ, ◌+◌, ◌<◌, ◌≤◌}
+use Prim.Native.Nat.{ℕ, ◌+◌, ◌<◌}
 use mathlib.Core.Path.{◌≡◌, refl, sym, ap, ap₂, ◌∙◌}
 use mathlib.Core.List.{List, [], ◌∷◌, ◌++◌, map}
 use native.Mathlib.Numerals.{add-one}
 use native.Mathlib.Omega.{arith}
 use lib.ListN.{length, take, get_or, set, length-map, get_or-map}
-use lib.Seq.{take-suc, take-suc-set, take_all}
+use lib.Seq.{take-suc, take-suc-set}
 use mir.Val.{Val}
 use denote.Array.{Array, each}
 use denote.Builtin as builtin
 use denote.Laws.{Is}
 use denote.Shadow.{shadow}
+use Rattle.std.specs.Prelude.{Result, Ok, Err, MatchResult, IsOkAnd}
 use Rattle.register.specs.declared.Register.{Register}
 use Rattle.register.specs.Layout.{zero_register, row_of, of_row}
 use Rattle.register.proofs.Theorems.{from_row_and_back}
 use Rattle.table.specs.declared.Edition.{Edition}
-use Rattle.plain_rules.specs.declared.Executed.{Executed}
-use Rattle.plain_rules.specs.declared.ExecutedProgram.{ExecutedProgram}
+use Rattle.table.specs.declared.refusal.Refusal.{Refusal}
 use Rattle.plain_rules.specs.Machine.{cleared_for, executed_registers, plain_rows, marks_rows, cleared_rows, executed_rows}
-use Rattle.plain_rules.specs.Answer.{answer_of}
+use Rattle.plain_rules.specs.Answer.{ExecutedProgram, answer_of, said_word, said_program}
 use Rattle.plain_rules.proofs.Theorems.{cleared_converted, registers_as_rows, marks_of_registers}
 
 -- the list l, of n entries, filled up to i with h of those of f
@@ -32,9 +32,6 @@ module _ {A B : Type 0} (h : A → B) (none : A) (f : List A) (l : List B) (i n 
       (take-suc-set l i _ (omega arith)
       ∙ ap₂ (λ (q : List B) (y : B). q ++ (y ∷ [])) so_far (e ∙ sym (get_or-map h f i none))
       ∙ sym (take-suc (map h f) i (h none) (omega (arith, length-map f h))))
-
-  pub all_filled : n ≤ i → l ≡ map h f
-  all_filled k = sym (take_all i l (omega arith)) ∙ so_far ∙ take_all i (map h f) (omega (arith, length-map f h))
 
 -- every row that a function is handed has four words, so that it is the row of its register
 rows_again : (xs : List (List ℕ)) (us : List Val) → shadow (each (List ℕ) (Array builtin.u32 4).own_val xs us) → map row_of (map of_row xs) ≡ xs
@@ -57,8 +54,14 @@ on_registers edition p rows m is before after written =
     λ j. (left j, laid j)
 
 -- and these as the answer of a program that is not refused
-pub answered : (edition : Edition) (p : List ℕ) (rows : List (List ℕ)) (m : List ℕ) {r : List (List ℕ)} {n : List ℕ} {e : Executed} → (r, n) ≡ executed_rows edition p rows m → e ≡ answer_of 0 0 r
-    → (let left = executed_rows edition p rows m in ◌≡◌ {A = ExecutedProgram} (record { executed = e; marks = n }) (record { executed = answer_of 0 0 left.0; marks = left.1 }))
-answered edition p rows m ran is =
-    let file = is ∙ ap (λ (x : List (List ℕ) × List ℕ). answer_of 0 0 x.0) ran in
-    λ j. record { executed = file j; marks = (ran j).1 }
+pub answered : {r x : List (List ℕ)} {n y : List ℕ} → ◌≡◌ {A = List (List ℕ) × List ℕ} (r, n) (x, y)
+    → ◌≡◌ {A = ExecutedProgram} (record { executed = answer_of 0 0 r; marks = n }) (record { executed = answer_of 0 0 x; marks = y })
+answered ran = λ j. record { executed = answer_of 0 0 (ran j).0; marks = (ran j).1 }
+
+-- a lone word's answer, from that of the program of one line
+pub first_said : {Post : List ℕ → ℕ → Type 0} (first : (x : List ℕ) (r : ℕ) → Post x r → r ≡ get_or x 0 0) (a : Result (List ℕ) Refusal) (b : Result ℕ Refusal) (f : List (List ℕ))
+    → MatchResult a (λ x. IsOkAnd b (Post x)) (λ e. b ≡ Err e)
+    → said_word (record { answer = b; file = f }) ≡ (let all = said_program (record { answer = a; file = f }) in record { executed = all.executed; mark = get_or all.marks 0 0 })
+first_said first (Ok x) (Ok r) f h = ap (λ (m : ℕ). record { executed = answer_of 0 0 f; mark = m }) (first x r h)
+first_said first (Ok x) (Err why) f h = absurd h
+first_said first (Err why) b f h = ap (λ (r : Result ℕ Refusal). said_word (record { answer = r; file = f })) h

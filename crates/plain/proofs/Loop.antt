@@ -6,8 +6,8 @@ use mathlib.Core.Bool.{Bool, true, false, cond, not, ◌||◌}
 use mathlib.Core.List.{List, [], ◌∷◌}
 use native.Mathlib.Numerals.{add-one}
 use native.Mathlib.Omega.{arith}
-use borrow.Author.Tests.{not-false, ltb-false, eq-eqb, ne_eqb}
-use lib.Dec.{ltb}
+use borrow.Author.Tests.{not-false, ltb-false}
+use lib.Dec.{ltb, eqb}
 use lib.ListN.{get_or, set, take, length}
 use lib.Seq.{take_all}
 use Rattle.register.specs.declared.Register.{Register}
@@ -25,7 +25,7 @@ use Rattle.alu_rules.specs.Result.{result_of, outcome_of}
 use Rattle.alu_rules.proofs.Rows.{li_result, multiply_result, short_result}
 use Rattle.plain_rules.specs.Machine.{outcome_on, step_on, plain_on, marks_on, step, plain, marks, executed_registers}
 use Rattle.plain_rules.proofs.Theorems.{one_more}
-use Rattle.plain_rules.proofs.Marks.{as_many, one_more_mark}
+use Rattle.plain_rules.proofs.Marks.{one_more_mark}
 
 -- what a word gives from registers
 abbrev given : ℕ → List Register → Outcome
@@ -51,20 +51,8 @@ pub its_edition : (edition : Edition) {r : Bool} → r ≡ is_wired edition (rec
 its_edition One e = rw e
 its_edition Two e = rw e
 
--- a register other than 0 takes it, and 0 where it is free
-other_taken : (edition : Edition) (d : Pointer) → (d.0 ≡ 0 → ⊥) → is_wired edition d ≡ false
-other_taken One d h = refl
-other_taken Two d h = ne_eqb d.0 0 h
-
-module _ (free : Bool) (d : Pointer) where
-  zero_taken : free ≡ true → is_wired (edition_by free) d ≡ false
-  zero_taken e = rw e
-
-  zero_not_taken : d.0 ≡ 0 → free ≡ false → is_wired (edition_by free) d ≡ true
-  zero_not_taken h e = rw e (eq-eqb d.0 0 h)
-
 -- nothing is stored where a list has no place
-pub set_beyond : {A : Type 0} (l : List A) (i : ℕ) (x : A) → length l ≤ i → l ≡ set l i x
+set_beyond : {A : Type 0} (l : List A) (i : ℕ) (x : A) → length l ≤ i → l ≡ set l i x
 set_beyond [] i x h = refl
 set_beyond (y ∷ l) zero x h = absurd (omega arith)
 set_beyond (y ∷ l) (suc i) x h = ap (λ (q : List _). y ∷ q) (set_beyond l i x (omega arith))
@@ -89,9 +77,6 @@ pub record Given (edition : Edition) (p : List ℕ) (i : ℕ) (f : List Register
 
 module _ {edition : Edition} {p : List ℕ} {i : ℕ} {f : List Register} {m : List ℕ} {g : List Register} {n : List ℕ} {d : Pointer} {o : Outcome} {s : List ℕ}
     (line : Given edition p i f m g n d o s) where
-  pub in_file : d.0 < 32
-  in_file = omega (arith, ap (λ (q : Pointer). q.0) line.at)
-
   after : {h : List Register} → h ≡ step edition (get_or p i 0) g → Done edition p (i + 1) f m h s
   after e = record {
     registers_left = e
@@ -109,23 +94,26 @@ module _ {edition : Edition} {p : List ℕ} {i : ℕ} {f : List Register} {m : L
       after (ap (λ (q : Pointer). set g q.0 o.value) line.at
       ∙ stores edition (get_or p i 0) g writes (sym (ap (is_wired edition) line.at) ∙ unwired) line.its_value)
 
-  pub stored_elsewhere : is_nop (get_or p i 0) ≡ false → (d.0 ≡ 0 → ⊥) → Done edition p (i + 1) f m (set g d.0 o.value) s
-  stored_elsewhere writes h = stored writes (other_taken edition d h)
-
   dropped : is_wired edition d ≡ true → Done edition p (i + 1) f m g s
   dropped wired = after (skips edition (get_or p i 0) g (the_second (is_nop (get_or p i 0)) (sym (ap (is_wired edition) line.at) ∙ wired)))
 
-  pub nothing_written : {t : Bool} → t ≡ is_nop (get_or p i 0) → not t ≡ false → Done edition p (i + 1) f m g s
-  nothing_written {t} is-nop nothing = after (skips edition (get_or p i 0) g (the_first (is_wired edition (rd_of (get_or p i 0))) (sym is-nop ∙ not-false t nothing)))
+  pub nothing_written : {t : Bool} → t ≡ is_nop (get_or p i 0) → not t ≡ false → {h : List Register} → h ≡ g → Done edition p (i + 1) f m h s
+  nothing_written {t} is-nop nothing same = after (same ∙ skips edition (get_or p i 0) g (the_first (is_wired edition (rd_of (get_or p i 0))) (sym is-nop ∙ not-false t nothing)))
 
--- and where its register is 0, by whether that is free
-module _ (free : Bool) {p : List ℕ} {i : ℕ} {f : List Register} {m : List ℕ} {g : List Register} {n : List ℕ} {d : Pointer} {o : Outcome} {s : List ℕ}
-    (line : Given (edition_by free) p i f m g n d o s) where
-  pub stored_in_0 : is_nop (get_or p i 0) ≡ false → d.0 ≡ 0 → free ≡ true → Done (edition_by free) p (i + 1) f m (set g 0 o.value) s
-  stored_in_0 writes h e = subst (λ (j : ℕ). Done (edition_by free) p (i + 1) f m (set g j o.value) s) h (stored line writes (zero_taken free d e))
+-- the registers after its store, by whether register 0 is free
+module _ {p : List ℕ} {i : ℕ} {f : List Register} {m : List ℕ} {g : List Register} {n : List ℕ} {d : Pointer} {o : Outcome} {s : List ℕ} where
+  wired_or_not : Given Two p i f m g n d o s → is_nop (get_or p i 0) ≡ false → (t : Bool) → eqb d.0 0 ≡ t → Done Two p (i + 1) f m (cond t g (set g d.0 o.value)) s
+  wired_or_not line writes true e = dropped line e
+  wired_or_not line writes false e = stored line writes e
 
-  pub not_stored : d.0 ≡ 0 → free ≡ false → Done (edition_by free) p (i + 1) f m g s
-  not_stored h e = dropped line (zero_not_taken free d h e)
+  stored_in : (free : Bool) → Given (edition_by free) p i f m g n d o s → is_nop (get_or p i 0) ≡ false
+      → Done (edition_by free) p (i + 1) f m (cond free (set g d.0 o.value) (cond (eqb d.0 0) g (set g d.0 o.value))) s
+  stored_in true line writes = stored line writes refl
+  stored_in false line writes = wired_or_not line writes (eqb d.0 0) refl
+
+  pub line_stored : (free : Bool) → Given (edition_by free) p i f m g n d o s → is_nop (get_or p i 0) ≡ false → {h : List Register}
+      → h ≡ cond free (set g d.0 o.value) (cond (eqb d.0 0) g (set g d.0 o.value)) → Done (edition_by free) p (i + 1) f m h s
+  line_stored free line writes e = subst (λ (h : List Register). Done (edition_by free) p (i + 1) f m h s) (sym e) (stored_in free line writes)
 
 -- each kind of word: l, k and t are what the code's tests answer, and a, b and c the other pointers
 module _ (edition : Edition) (p : List ℕ) (i : ℕ) (f : List Register) (m : List ℕ) {g : List Register} {n : List ℕ} (here : i < length p) (so_far : Done edition p i f m g n) where
@@ -207,7 +195,3 @@ pub all_lines : (edition : Edition) (p : List ℕ) (i : ℕ) (f : List Register)
 all_lines edition p i f m h done =
     let all = take_all i p h in
     λ j. ((done.registers_left ∙ ap (λ (q : List ℕ). plain edition q f) all) j, (done.marks_laid ∙ ap (λ (q : List ℕ). marks edition q f m) all) j)
-
--- as many marks as were lent
-pub as_long : {edition : Edition} {p : List ℕ} {i : ℕ} {f : List Register} {m : List ℕ} {g : List Register} {n : List ℕ} → Done edition p i f m g n → length n ≡ length m
-as_long {edition = edition} {p = p} {i = i} {f = f} {m = m} done = ap length done.marks_laid ∙ as_many (λ r. r) (λ r. r) zero_register edition (take i p) f m

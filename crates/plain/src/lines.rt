@@ -1,6 +1,6 @@
 // Lines one after another, on an array of registers, for a card of either edition.
 
-ghost use Rattle.std.specs.Prelude.{◌≡◌, cond, get_or, set};
+ghost use Rattle.std.specs.Prelude.{◌≡◌, ◌<◌, cond, eqb, get_or, set};
 ghost use Rattle.register.specs.Layout.{zero_register};
 ghost use Rattle.table.specs.Fields.{code_of};
 ghost use Rattle.table.specs.Operation.{short_rows};
@@ -48,8 +48,20 @@ fn short_given(asked: bool, word: u32, rs1: Register, rs2: Register) -> Outcome
     }
 }
 
+// A value into a register. Register 0 is the only one that an edition wires, so only its number asks whether it is writable.
+fn store(registers: &mut [Register; 32], at: usize, writable: bool, value: Register)
+    requires { at < 32 }
+    ensures { registers.new ≡ cond writable (set registers.old at value) (cond (eqb at 0) registers.old (set registers.old at value)) }
+{
+    if at != 0 {
+        registers[at] = value;
+    } else if writable {
+        registers[0] = value;
+    }
+}
+
 // Executes lines on registers, and leaves their marks in the lent slice, so far as it reaches. The registers are a local of the loop, and a word of each kind reads
-// and stores for itself: no line copies them. Register 0 is the only one that an edition wires, so the edition is asked once, and a line tests its register's number first.
+// and stores for itself: no line copies them. The edition is asked once.
 pub fn execute_marked(
     edition: Edition,
     program: &[u32],
@@ -60,43 +72,26 @@ pub fn execute_marked(
 {
     let writable = !writes::is_wired(edition, Pointer(0));
     let mut registers = file;
-    let mut i = 0;
-    while i < program.len() {
-        let word = program[i];
-        let here = i;
-        i += 1;
+    for (i, line) in program.iter().enumerate() {
+        let word = *line;
         let at = fields::rd(word).0 as usize;
         let rs1 = fields::rs1(word).0 as usize;
         let rs2 = fields::rs2(word).0 as usize;
         if fields::is_li(word) {
-            let value = alu::li_outcome(word, registers[at]).value;
-            put_mark(marks, here, 0);
-            if at != 0 {
-                registers[at] = value;
-            } else if writable {
-                registers[0] = value;
-            }
+            let outcome = alu::li_outcome(word, registers[at]);
+            put_mark(marks, i, 0);
+            store(&mut registers, at, writable, outcome.value);
         } else if fields::is_multiply(word) {
             let rs3 = fields::rs3(word).0 as usize;
             let outcome = multiply_outcome(word, registers[rs1], registers[rs2], registers[rs3]);
-            put_mark(marks, here, outcome.mark);
-            let value = outcome.value;
-            if at != 0 {
-                registers[at] = value;
-            } else if writable {
-                registers[0] = value;
-            }
+            put_mark(marks, i, outcome.mark);
+            store(&mut registers, at, writable, outcome.value);
         } else {
-            let asked = here < marks.len();
+            let asked = i < marks.len();
             let outcome = short_given(asked, word, registers[rs1], registers[rs2]);
-            put_mark(marks, here, outcome.mark);
-            let value = outcome.value;
+            put_mark(marks, i, outcome.mark);
             if !writes::is_nop(word) {
-                if at != 0 {
-                    registers[at] = value;
-                } else if writable {
-                    registers[0] = value;
-                }
+                store(&mut registers, at, writable, outcome.value);
             }
         }
     }

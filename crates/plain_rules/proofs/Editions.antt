@@ -1,6 +1,7 @@
 -- The plain machine in each edition: in the first nothing is cleared, and in the second register 0 is zero from the first line on, so that every line reads zero
 -- there. Carried by `never_to_0`, which is `each_target` of the table in the second edition.
 -- Assumes nothing.
+use Rattle.table.specs.declared.Pointer.{Pointer}
 use Prim.Native.Nat.{ℕ, suc, ◌<◌, ◌≤◌}
 use mathlib.Core.Path.{◌≡◌, refl, sym, ap, ◌∙◌}
 use mathlib.Core.List.{List, [], ◌∷◌}
@@ -11,14 +12,13 @@ use lib.Seq.{get_or-set_same, get_or-set_other}
 use Rattle.register.specs.declared.Register.{Register}
 use Rattle.register.specs.Layout.{zero_register, row_of, of_row}
 use Rattle.table.specs.declared.Edition.TheVariants.{One, Two}
-use Rattle.table.specs.declared.Target.{Target}
+use Rattle.std.specs.declared.option.Option.{Option}
 use Rattle.table.specs.Fields.{rd_of}
 use Rattle.table.specs.Operation.{target_of}
 use Rattle.table.specs.Refusal.{first_bad}
 use Rattle.table.proofs.Theorems.{each_target}
-use Rattle.plain_rules.specs.declared.ExecutedProgram.{ExecutedProgram}
 use Rattle.plain_rules.specs.Machine.{stored, cleared_for, step_on, plain_on, plain_rows, cleared_rows}
-use Rattle.plain_rules.specs.Answer.{execute_all_of}
+use Rattle.plain_rules.specs.Answer.{ExecutedProgram, execute_all_of}
 use Rattle.plain_rules.proofs.Refusals.{executed}
 
 -- ---- what is cleared
@@ -38,7 +38,7 @@ others_not_cleared x d f i = get_or-set_other f 0 (suc i) x d (λ e. omega arith
 
 pub never_to_0 : {A : Type 0} (w : ℕ) (v d : A) (f : List A) → get_or (stored (target_of Two w) v f) 0 d ≡ get_or f 0 d
 never_to_0 w v d f =
-    each_target (λ (t : Target). get_or (stored t v f) 0 d ≡ get_or f 0 d) Two w refl
+    each_target (λ (t : Option Pointer). get_or (stored t v f) 0 d ≡ get_or f 0 d) Two w refl
     (λ free. get_or-set_other f (rd_of w).0 0 v d (λ e. eqb-false (rd_of w).0 0 free (sym e)))
 
 module _ {A : Type 0} (read : A → Register) (make : Register → A) (none : A) where

@@ -1,5 +1,6 @@
 pub mod Boundaries
 pub mod Refusals
+pub mod Said
 pub mod Theorems
 pub mod Marks
 pub mod Editions

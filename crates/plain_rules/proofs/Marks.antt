@@ -10,9 +10,8 @@ use Rattle.register.specs.Layout.{row_of, of_row}
 use Rattle.table.specs.declared.Edition.{Edition}
 use Rattle.table.specs.Refusal.{first_bad}
 use Rattle.table.proofs.Rows.{all_alike}
-use Rattle.plain_rules.specs.declared.ExecutedProgram.{ExecutedProgram}
 use Rattle.plain_rules.specs.Machine.{outcome_on, step_on, plain_on, marks_on, outcome_rows, plain_rows, cleared_rows, executed_rows}
-use Rattle.plain_rules.specs.Answer.{no_marks, execute_all_of}
+use Rattle.plain_rules.specs.Answer.{ExecutedProgram, no_marks, execute_all_of}
 use Rattle.plain_rules.proofs.Refusals.{executed}
 
 module _ {A : Type 0} (read : A → Register) (make : Register → A) (none : A) (edition : Edition) where

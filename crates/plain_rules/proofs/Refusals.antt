@@ -12,9 +12,8 @@ use Rattle.table.specs.declared.Edition.{Edition}
 use Rattle.table.specs.Decided.{decided}
 use Rattle.table.specs.Refusal.{WORD, first_bad}
 use Rattle.table.proofs.Decided.{each, deciding}
-use Rattle.plain_rules.specs.declared.ExecutedProgram.{ExecutedProgram}
 use Rattle.plain_rules.specs.Machine.{plain_on, marks_on, executed_rows}
-use Rattle.plain_rules.specs.Answer.{answer_of, no_marks, execute_of, execute_all_of}
+use Rattle.plain_rules.specs.Answer.{ExecutedProgram, answer_of, no_marks, execute_of, execute_all_of}
 
 pub executed : (edition : Edition) (p : List ℕ) (f : List (List ℕ)) → length p ≤ 64 → length p ≤ first_bad p
     → execute_all_of edition p f ≡ (let left = executed_rows edition p f no_marks in record { executed = answer_of 0 0 left.0; marks = left.1 })

@@ -1,5 +1,6 @@
 -- For the reader of specs/: a program is its words one after another, and the machine on rows and the machine on registers agree.
 -- Assumes nothing.
+use Rattle.table.specs.declared.Pointer.{Pointer}
 use Prim.Native.Nat.{ℕ, zero, suc, ◌<◌}
 use mathlib.Core.Path.{◌≡◌, refl, sym, ap, ap₂, ◌∙◌}
 use mathlib.Core.Bool.{Bool, true, false, cond}
@@ -9,8 +10,8 @@ use lib.Seq.{take-suc}
 use Rattle.register.specs.declared.Register.{Register}
 use Rattle.register.specs.Layout.{zero_register, row_of, of_row}
 use Rattle.table.specs.declared.Edition.{Edition}
-use Rattle.table.specs.declared.Target.{Target}
-use Rattle.table.specs.declared.Target.TheVariants.{None, To}
+use Rattle.std.specs.declared.option.Option.{Option}
+use Rattle.std.specs.declared.option.Option.TheVariants.{None, Some}
 use Rattle.table.specs.Fields.{first_of, rs2_of, rs3_of}
 use Rattle.table.specs.Operation.{is_wired, target_of}
 use Rattle.alu_rules.specs.declared.Outcome.{Outcome}
@@ -53,9 +54,9 @@ module _ {A B : Type 0} (read : A → Register) (make : Register → A) (none : 
   set_map (x ∷ f) zero y = refl
   set_map (x ∷ f) (suc i) y = ap (λ (l : List B). h x ∷ l) (set_map f i y)
 
-  stored_map : (t : Target) (y : A) (f : List A) → map h (stored t y f) ≡ stored t (h y) (map h f)
+  stored_map : (t : Option Pointer) (y : A) (f : List A) → map h (stored t y f) ≡ stored t (h y) (map h f)
   stored_map None y f = refl
-  stored_map (To p) y f = set_map f p.0 y
+  stored_map (Some p) y f = set_map f p.0 y
 
   pub cleared_converted : (z : A) (f : List A) → map h (cleared_for edition z f) ≡ cleared_for edition (h z) (map h f)
   cleared_converted z f = go (is_wired edition (record { 0 = 0 }))

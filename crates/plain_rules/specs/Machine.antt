@@ -1,20 +1,21 @@
 -- "the plain machine that executes one instruction after another", of either edition of the card
 -- Assumes nothing.
+use Rattle.table.specs.declared.Pointer.{Pointer}
 use Rattle.std.specs.Prelude.{ℕ, cond, List, [], ◌∷◌, get_or, set}
 use Rattle.register.specs.declared.Register.{Register}
 use Rattle.register.specs.Layout.{zero_register, row_of, of_row}
 use Rattle.table.specs.declared.Edition.{Edition}
-use Rattle.table.specs.declared.Target.{Target}
-use Rattle.table.specs.declared.Target.TheVariants.{None, To}
+use Rattle.std.specs.declared.option.Option.{Option}
+use Rattle.std.specs.declared.option.Option.TheVariants.{None, Some}
 use Rattle.table.specs.Fields.{first_of, rs2_of, rs3_of}
 use Rattle.table.specs.Operation.{is_wired, target_of}
 use Rattle.alu_rules.specs.declared.Outcome.{Outcome}
 use Rattle.alu_rules.specs.Result.{outcome_of}
 
 -- the file with v in the register that is written, if any
-abbrev pub stored : {A : Type 0} → Target → A → List A → List A
+abbrev pub stored : {A : Type 0} → Option Pointer → A → List A → List A
 stored None v f = f
-stored (To p) v f = set f p.0 v
+stored (Some p) v f = set f p.0 v
 
 -- "in edition 2 the latter clears register 0 first": the file with zero in register 0, where the edition wires it
 abbrev pub cleared_for : {A : Type 0} → Edition → A → List A → List A

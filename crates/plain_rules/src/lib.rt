@@ -1,25 +1,12 @@
-// What plain execution answers. The plain machine itself is a definition: specs/Machine.antt. There is no code but these structs.
+// What plain execution answers. The plain machine itself is a definition: specs/Machine.antt. There is no code but this struct.
 
 #![tactic(auto)]
 
-// What plain execution answers of any program: 0, or the number it is refused with, with 6 the place of the first bad word; and the file.
+use table::refusal::Refusal;
+
+// What plain execution answers: the mark of a lone word or the marks of a program's lines, or why it is refused; and the file, which comes back in both cases.
 #[derive(Clone, Copy)]
-pub struct Executed {
-    pub refusal: u32,
-    pub place: usize,
+pub struct Executed<M> {
+    pub answer: Result<M, Refusal>,
     pub file: [[u32; 4]; 32],
-}
-
-// What a lone word answers: that, and its mark.
-#[derive(Clone, Copy)]
-pub struct ExecutedWord {
-    pub executed: Executed,
-    pub mark: u8,
-}
-
-// What a program answers: that, and the marks of its lines, zero beyond them.
-#[derive(Clone, Copy)]
-pub struct ExecutedProgram {
-    pub executed: Executed,
-    pub marks: [u8; 64],
 }

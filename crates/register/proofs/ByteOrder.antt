@@ -5,18 +5,15 @@ use mathlib.Core.Path.{◌≡◌, sym, ap, ◌∙◌}
 use mathlib.Core.List.{List, [], ◌∷◌}
 use native.Mathlib.Omega.{arith}
 use lib.ListN.{length, get_or, drop}
-use lib.Pow.{shr-shr}
 use lib.Seq.{drop-cons, drop-length}
+use Rattle.std.proofs.lemmas.Nat.{from_le_bytes-to_le_bytes_4}
 use Rattle.register.specs.Halves.{join}
 use Rattle.register.specs.Layout.{word_of_bytes, bytes_of_word, word_at}
 use Rattle.register.proofs.Lanes.{value, Digits, digit_at}
 
-nested : (w : ℕ) → w < 2 ^ 32 → w % 256 + w / 256 % 256 * 256 + w / 256 / 256 % 256 * 65536 + w / 256 / 256 / 256 % 256 * 16777216 ≡ w
-nested w h = omega arith
-
 -- the word of the bytes of a word
 pub word_of_its_bytes : (w : ℕ) → w < 2 ^ 32 → word_of_bytes (w % 2 ^ 8) (w / 2 ^ 8 % 2 ^ 8) (w / 2 ^ 16 % 2 ^ 8) (w / 2 ^ 24 % 2 ^ 8) ≡ w
-word_of_its_bytes w h = simp (← shr-shr w 8 8, ← shr-shr w 16 8) (nested w h)
+word_of_its_bytes w h = from_le_bytes-to_le_bytes_4 w h
 
 -- the bytes of the word of four bytes
 pub bytes_of_their_word : (b0 b1 b2 b3 : ℕ) (rest : List ℕ) → b0 < 2 ^ 8 → b1 < 2 ^ 8 → b2 < 2 ^ 8 → b3 < 2 ^ 8

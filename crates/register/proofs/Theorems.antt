@@ -11,6 +11,8 @@ use borrow.Author.Tests.{eq-eqb, ne_eqb, eqb-true, eqb-false}
 use lib.Dec.{eqb}
 use lib.ListN.{length, get_or, drop}
 use lib.Pow as pow
+use Rattle.std.proofs.Common.{⊎_elim}
+use Rattle.std.proofs.lemmas.Bool.{cases_eq}
 use Rattle.register.specs.Halves.{low, high, half}
 use Rattle.register.proofs.Joined.{join_lt}
 use Rattle.register.specs.declared.Register.{Register}
@@ -76,11 +78,7 @@ byte_lane i r h =
 -- ---- one halfword set, the other seven kept
 
 equal : (a b : ℕ) {P : Type 0} → (a ≡ b → P) → ((a ≡ b → ⊥) → P) → P
-equal a b {P} same other = go (eqb a b) refl
-  where
-    go : (t : Bool) → eqb a b ≡ t → P
-    go true e = same (eqb-true a b e)
-    go false e = other (eqb-false a b e)
+equal a b same other = ⊎_elim same other (cases_eq a b)
 
 module _ (i v k w : ℕ) (fits : v < 2 ^ 16) where
   low_set : low 16 (with_half i v k w) ≡ cond (eqb k i) v (low 16 w)

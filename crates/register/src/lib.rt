@@ -7,12 +7,12 @@ ghost use Rattle.register.specs.Layout.{zero_register, is_zero, row_of, of_row, 
 
 pub mod bytes;
 pub mod halves;
+mod rows;
 
-use bytes::{with_word, word_at};
 use halves::put_half;
 
 // w0 has bits 31 to 0, w3 bits 127 to 96.
-#[derive(Clone, Copy)]
+#[derive(Clone, Copy, PartialEq, Eq)]
 pub struct Register {
     pub w0: u32,
     pub w1: u32,
@@ -40,58 +40,35 @@ impl Register {
     pub fn is_zero(self) -> bool
         ensures { result ≡ is_zero self }
     {
-        if self.w0 != 0 {
-            return false;
-        }
-        if self.w1 != 0 {
-            return false;
-        }
-        if self.w2 != 0 {
-            return false;
-        }
-        self.w3 == 0
+        self == Register::ZERO
     }
 
     // From 16 bytes, least significant first.
     pub fn from_bytes(b: [u8; 16]) -> Register
         ensures { result ≡ of_bytes b }
     {
-        Register {
-            w0: word_at(b, 0),
-            w1: word_at(b, 4),
-            w2: word_at(b, 8),
-            w3: word_at(b, 12),
-        }
+        Register::from(b)
     }
 
     // As 16 bytes, least significant first.
     pub fn to_bytes(self) -> [u8; 16]
         ensures { result ≡ bytes_of self }
     {
-        let zeros = [0u8; 16];
-        let four = with_word(zeros, 0, self.w0);
-        let eight = with_word(four, 4, self.w1);
-        let twelve = with_word(eight, 8, self.w2);
-        with_word(twelve, 12, self.w3)
+        self.into()
     }
 
     // From a row of four words, word 0 first.
     pub fn from_row(row: [u32; 4]) -> Register
         ensures { result ≡ of_row row }
     {
-        Register {
-            w0: row[0],
-            w1: row[1],
-            w2: row[2],
-            w3: row[3],
-        }
+        Register::from(row)
     }
 
     // As a row of four words, word 0 first.
     pub fn to_row(self) -> [u32; 4]
         ensures { result ≡ row_of self }
     {
-        [self.w0, self.w1, self.w2, self.w3]
+        self.into()
     }
 
     // With halfword i set to v; beyond halfword 7 there is nothing to set.

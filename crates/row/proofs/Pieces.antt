@@ -1,31 +1,23 @@
 -- The pieces of a row: a hyphen or a digit more, and that the parts in which it is written join. Carried by `stored_before` and the texts' lengths.
 -- Assumes nothing.
-use Prim.Native.Nat.{ℕ, suc, ◌+◌, ◌-◌, ◌/◌, ◌%◌, ◌^◌, ◌≤◌, ◌<◌}
+use Prim.Native.Nat.{ℕ, suc, ◌-◌, ◌/◌, ◌%◌, ◌^◌, ◌≤◌, ◌<◌}
 use mathlib.Core.Path.{◌≡◌, refl, sym, ap, ◌∙◌}
 use mathlib.Core.List.{List, [], ◌++◌, append_assoc}
 use native.Mathlib.Nat.{div-div-eq-div-mul, pow-suc}
 use native.Mathlib.Omega.{arith}
-use borrow.Author.Fill.{fill_more}
 use borrow.Rule.Slice.PartMut.{mid_of, put_mid}
-use lib.ListN.{length, set, length-append, length-replicate, take-append-drop}
+use lib.ListN.{length, set, length-append, take-append-drop}
 use lib.Seq.{append_snoc}
 use Rattle.buffer.specs.Front.{at_front, from_start}
-use Rattle.buffer.proofs.Parts.{then_front, at_end}
+use Rattle.buffer.proofs.Parts.{then_front}
 use Rattle.register.specs.declared.Register.{Register}
 use Rattle.row_rules.proofs.Lengths.{two_long, stage_long, flags_long, number_long, value_long, mark_long}
-use Rattle.row_rules.specs.declared.Change.{Change}
+use Rattle.row_rules.specs.Shown.{Change}
 use Rattle.row_rules.specs.declared.Flags.{Flags}
 use Rattle.row_rules.specs.declared.Row.{Row}
-use Rattle.row_rules.specs.declared.Stage.{Stage}
-use Rattle.row_rules.specs.Text.{digit, two_digits, hex_digits, hyphens, stage_text, flags_text, number_text, register_text, value_text, mark_text, behind_space, newline, row_text}
+use Rattle.row_rules.specs.Shown.{Stage}
+use Rattle.row_rules.specs.Text.{digit, two_digits, hex_digits, stage_text, flags_text, number_text, register_text, value_text, mark_text, behind_space, newline, row_text}
 use Rattle.row.proofs.Stores.{part, back, stored_before, behind_each, end_put}
-
--- a turn of the loop that writes hyphens
-pub hyphen_more : (old out : List ℕ) (k i : ℕ) → k ≤ length old → i < k → out ≡ at_front (hyphens i) old → set out i 45 ≡ at_front (hyphens (i + 1)) old
-hyphen_more old out k i h g o = rw (o, length-replicate {A = ℕ} i 45, length-replicate {A = ℕ} (i + 1) 45) (fill_more i 45 old (omega arith))
-
-pub all_hyphens : (old : List ℕ) (i k : ℕ) {out : List ℕ} → i ≤ k → k ≤ i → out ≡ at_front (hyphens i) old → out ≡ at_front (hyphens k) old
-all_hyphens old i k few all e = at_end (λ n. at_front (hyphens n) old) i k few all e
 
 -- the loop that writes hex digits, from the last one back: before its first turn, a turn, which takes a digit from the rest of the number, and its end
 module _ (k w : ℕ) where
@@ -119,10 +111,6 @@ row_end_put f c old h eu ev ew ex =
 -- ---- the second piece at the front of the part behind the first
 
 module _ (old : List ℕ) {x y : List ℕ} where
-  pub words_put : (a b : ℕ) → x ≡ at_front (hex_digits 8 a) old → y ≡ at_front (hex_digits 8 b) (mid_of 8 (length x - 8) x)
-      → put_mid 8 (length x - 8) x y ≡ at_front (hex_digits 8 a ++ hex_digits 8 b) old
-  words_put a b e f = then_front 8 (hex_digits 8 a) (hex_digits 8 b) old x y refl e f
-
   pub register_put : (v : Register) → x ≡ at_front (hex_digits 8 v.w3 ++ hex_digits 8 v.w2) old
       → y ≡ at_front (hex_digits 8 v.w1 ++ hex_digits 8 v.w0) (mid_of 16 (length x - 16) x)
       → put_mid 16 (length x - 16) x y ≡ at_front (register_text v) old

@@ -51,9 +51,7 @@ pub(crate) fn put_hex(out: &mut [u8], k: usize, w: u32)
     ensures { out.new ≡ at_front (hex_digits k w) out.old }
 {
     let mut rest = w;
-    let mut i = k;
-    while i > 0 {
-        i -= 1;
+    for i in (0..k).rev() {
         out[i] = hex(rest);
         rest /= 16;
     }
@@ -63,9 +61,5 @@ pub(crate) fn put_hyphens(out: &mut [u8], k: usize)
     requires { k ≤ length out.old }
     ensures { out.new ≡ at_front (hyphens k) out.old }
 {
-    let mut i = 0;
-    while i < k {
-        out[i] = b'-';
-        i += 1;
-    }
+    out[..k].fill(b'-');
 }

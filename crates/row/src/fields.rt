@@ -6,15 +6,15 @@ ghost use Rattle.row_rules.specs.Text.{two_digits, hex_digits, stage_text, flag_
 
 use crate::digits::{put_hex, put_hyphens, put_two};
 use register::Register;
-use row_rules::{Change, Flags, Stage};
+use row_rules::{Change, Flags, Row, Stage};
 
 fn put_word(out: &mut [u8], stage: Stage)
     requires { 7 ≤ length out.old }
     ensures { out.new ≡ at_front (stage_text stage) out.old }
 {
     match stage {
-        Stage::Empty => put_hyphens(out, 7),
-        Stage::Holds(w) => put_hex(out, 7, w),
+        None => put_hyphens(out, 7),
+        Some(w) => put_hex(out, 7, w),
     }
 }
 
@@ -28,20 +28,13 @@ fn put_two_stages(out: &mut [u8], first: Stage, second: Stage)
     out[0] = b' ';
 }
 
-pub(crate) fn put_begin(
-    out: &mut [u8],
-    cycle: u32,
-    fetch: Stage,
-    decode: Stage,
-    execute: Stage,
-    write: Stage,
-)
+pub(crate) fn put_begin(out: &mut [u8], row: Row)
     requires { 34 ≤ length out.old }
-    ensures { out.new ≡ at_front (two_digits cycle ++ (behind_space (stage_text fetch) ++ behind_space (stage_text decode)) ++ (behind_space (stage_text execute) ++ behind_space (stage_text write))) out.old }
+    ensures { out.new ≡ at_front (two_digits row.cycle ++ (behind_space (stage_text row.fetch) ++ behind_space (stage_text row.decode)) ++ (behind_space (stage_text row.execute) ++ behind_space (stage_text row.write))) out.old }
 {
-    put_two(out, cycle);
-    put_two_stages(&mut out[2..], fetch, decode);
-    put_two_stages(&mut out[18..], execute, write);
+    put_two(out, row.cycle);
+    put_two_stages(&mut out[2..], row.fetch, row.decode);
+    put_two_stages(&mut out[18..], row.execute, row.write);
 }
 
 fn flag(raised: bool) -> u8
@@ -67,8 +60,8 @@ fn put_number(out: &mut [u8], change: Change)
     ensures { out.new ≡ at_front (number_text change) out.old }
 {
     match change {
-        Change::Nothing => put_hyphens(out, 2),
-        Change::To(p, _) => put_two(out, p.0 as u32),
+        None => put_hyphens(out, 2),
+        Some((p, _)) => put_two(out, p.0 as u32),
     }
 }
 
@@ -93,8 +86,8 @@ fn put_value(out: &mut [u8], change: Change)
     ensures { out.new ≡ at_front (value_text change) out.old }
 {
     match change {
-        Change::Nothing => put_hyphens(out, 32),
-        Change::To(_, o) => put_register(out, o.value),
+        None => put_hyphens(out, 32),
+        Some((_, o)) => put_register(out, o.value),
     }
 }
 
@@ -103,19 +96,19 @@ fn put_mark(out: &mut [u8], change: Change)
     ensures { out.new ≡ at_front (mark_text change) out.old }
 {
     match change {
-        Change::Nothing => put_hyphens(out, 2),
-        Change::To(_, o) => put_hex(out, 2, o.mark as u32),
+        None => put_hyphens(out, 2),
+        Some((_, o)) => put_hex(out, 2, o.mark as u32),
     }
 }
 
-pub(crate) fn put_end(out: &mut [u8], flags: Flags, change: Change)
+pub(crate) fn put_end(out: &mut [u8], row: Row)
     requires { 44 ≤ length out.old }
-    ensures { out.new ≡ at_front (behind_space (flags_text flags) ++ behind_space (number_text change) ++ behind_space (value_text change) ++ behind_space (mark_text change) ++ newline) out.old }
+    ensures { out.new ≡ at_front (behind_space (flags_text row.flags) ++ behind_space (number_text row.change) ++ behind_space (value_text row.change) ++ behind_space (mark_text row.change) ++ newline) out.old }
 {
-    put_flags(out, flags);
-    put_number(&mut out[5..], change);
-    put_value(&mut out[8..], change);
-    put_mark(&mut out[41..], change);
+    put_flags(out, row.flags);
+    put_number(&mut out[5..], row.change);
+    put_value(&mut out[8..], row.change);
+    put_mark(&mut out[41..], row.change);
     out[7] = b' ';
     out[40] = b' ';
     out[43] = b'\n';

@@ -4,6 +4,7 @@
 
 ghost use Rattle.std.specs.Prelude.{◌≤◌, ◌≡◌, length};
 ghost use Rattle.buffer.specs.Front.{at_front};
+ghost use Rattle.table.specs.Refusal.{number_in};
 ghost use Rattle.row_rules.specs.Text.{row_size, row_text, row_at};
 
 pub mod digits;
@@ -13,7 +14,7 @@ pub mod values;
 use crate::fields::{put_begin, put_end};
 use buffer::has_room;
 use row_rules::Row;
-use table::refusal;
+use table::refusal::Refusal;
 
 // The bytes of a row.
 pub const ROW_SIZE: usize = 78;
@@ -22,23 +23,17 @@ fn put_row(out: &mut [u8], row: Row)
     requires { row_size ≤ length out.old }
     ensures { out.new ≡ at_front (row_text row) out.old }
 {
-    let fetch = row.fetch;
-    let decode = row.decode;
-    let execute = row.execute;
-    let write = row.write;
-    let flags = row.flags;
-    let change = row.change;
-    put_begin(out, row.cycle, fetch, decode, execute, write);
-    put_end(&mut out[34..], flags, change);
+    put_begin(out, row);
+    put_end(&mut out[34..], row);
 }
 
 // Writes a row into the buffer from `start` on, its 78 bytes and no others. Refused with 9 where there are fewer, and then the buffer is as it was.
-pub fn write_row(buffer: &mut [u8], start: usize, row: Row) -> u32
-    ensures { (result, buffer.new) ≡ row_at row start buffer.old }
+pub fn write_row(buffer: &mut [u8], start: usize, row: Row) -> Result<(), Refusal>
+    ensures { (number_in result, buffer.new) ≡ row_at row start buffer.old }
 {
-    if has_room(buffer.len(), start, ROW_SIZE) {
-        put_row(&mut buffer[start..], row);
-        return 0;
+    if !has_room(buffer.len(), start, ROW_SIZE) {
+        return Err(Refusal::Room);
     }
-    refusal::ROOM
+    put_row(&mut buffer[start..], row);
+    Ok(())
 }

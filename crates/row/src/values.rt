@@ -7,7 +7,7 @@ use crate::digits::put_hex;
 use crate::fields::put_register;
 use register::Register;
 
-// An instruction's word in seven hex digits.
+// An instruction's word in seven hex digits. A const parameter for this and the next would need a law that nothing else needs.
 pub fn word_text(w: u32) -> [u8; 7]
     ensures { result ≡ hex_digits 7 w }
 {

@@ -3,11 +3,10 @@
 use Prim.Native.Nat.{ℕ}
 use mathlib.Core.Path.{◌≡◌, refl}
 use lib.ListN.{length}
-use Rattle.row_rules.specs.declared.Stage.{Stage}
-use Rattle.row_rules.specs.declared.Stage.TheVariants.{Empty, Holds}
+use Rattle.row_rules.specs.Shown.{Stage}
+use Rattle.std.specs.declared.option.Option.TheVariants.{None, Some}
 use Rattle.row_rules.specs.declared.Flags.{Flags}
-use Rattle.row_rules.specs.declared.Change.{Change}
-use Rattle.row_rules.specs.declared.Change.TheVariants.{Nothing, To}
+use Rattle.row_rules.specs.Shown.{Change}
 use Rattle.row_rules.specs.Text.{two_digits, stage_text, flags_text, number_text, register_text, value_text, mark_text}
 
 pub two_long : (n : ℕ) → length (two_digits n) ≡ 2
@@ -16,8 +15,8 @@ two_long n = refl
 
 pub stage_long : (s : Stage) → length (stage_text s) ≡ 7
 unfolding stage_text
-stage_long Empty = refl
-stage_long (Holds w) = refl
+stage_long None = refl
+stage_long (Some w) = refl
 
 pub flags_long : (f : Flags) → length (flags_text f) ≡ 3
 unfolding flags_text
@@ -25,15 +24,15 @@ flags_long f = refl
 
 pub number_long : (x : Change) → length (number_text x) ≡ 2
 unfolding number_text two_digits
-number_long Nothing = refl
-number_long (To p o) = refl
+number_long None = refl
+number_long (Some (p, o)) = refl
 
 pub value_long : (x : Change) → length (value_text x) ≡ 32
 unfolding value_text register_text
-value_long Nothing = refl
-value_long (To p o) = refl
+value_long None = refl
+value_long (Some (p, o)) = refl
 
 pub mark_long : (x : Change) → length (mark_text x) ≡ 2
 unfolding mark_text
-mark_long Nothing = refl
-mark_long (To p o) = refl
+mark_long None = refl
+mark_long (Some (p, o)) = refl

@@ -16,9 +16,8 @@ use lib.Seq.{take_at, drop_at, drop-drop, get_or-append-add, length-take-le}
 use Rattle.buffer.specs.Front.{from_start}
 use Rattle.table.specs.Refusal.{ROOM}
 use Rattle.table.proofs.Decided.{stops, passes, ends, apart, each}
-use Rattle.row_rules.specs.declared.Stage.TheVariants.{Empty, Holds}
-use Rattle.row_rules.specs.declared.Change.{Change}
-use Rattle.row_rules.specs.declared.Change.TheVariants.{Nothing, To}
+use Rattle.std.specs.declared.option.Option.TheVariants.{None, Some}
+use Rattle.row_rules.specs.Shown.{Change}
 use Rattle.row_rules.specs.declared.Flags.{Flags}
 use Rattle.row_rules.specs.declared.Row.{Row}
 use Rattle.row_rules.specs.Text.{digit, hex_digits, two_digits, stage_text, flag_text, flags_text, number_text, register_text, value_text, mark_text, newline, row_text, row_size, row_at}
@@ -194,12 +193,12 @@ module _ (r : Row) (start : ℕ) (buffer : List ℕ) where
 -- the largest numbers: 67 0ABCDEF 1FFFFFF ------- 1234567 101 31 89ABCDEF0123456776543210FEDCBA98 A5
 pub row_sixty_seven : row_text (record {
   cycle = 67;
-  fetch = Holds 0xABCDEF;
-  decode = Holds 0x1FFFFFF;
-  execute = Empty;
-  write = Holds 0x1234567;
+  fetch = Some 0xABCDEF;
+  decode = Some 0x1FFFFFF;
+  execute = None;
+  write = Some 0x1234567;
   flags = record { rs1 = true; rs2 = false; rs3 = true };
-  change = To (record { 0 = 31 }) (record { value = record { w0 = 0xFEDCBA98; w1 = 0x76543210; w2 = 0x1234567; w3 = 0x89ABCDEF }; mark = 0xA5 });
+  change = Some ((record { 0 = 31 }), (record { value = record { w0 = 0xFEDCBA98; w1 = 0x76543210; w2 = 0x1234567; w3 = 0x89ABCDEF }; mark = 0xA5 }));
 })
     ≡ 54 ∷ 55
     ∷ 32 ∷ 48 ∷ 65 ∷ 66 ∷ 67 ∷ 68 ∷ 69 ∷ 70
@@ -219,12 +218,12 @@ row_sixty_seven = refl
 -- 03 ------- 1810422 00000A1 ------- 000 -- -------------------------------- --
 pub row_three : row_text (record {
   cycle = 3;
-  fetch = Empty;
-  decode = Holds 0x1810422;
-  execute = Holds 0xA1;
-  write = Empty;
+  fetch = None;
+  decode = Some 0x1810422;
+  execute = Some 0xA1;
+  write = None;
   flags = record { rs1 = false; rs2 = false; rs3 = false };
-  change = Nothing;
+  change = None;
 })
     ≡ 48 ∷ 51
     ∷ 32 ∷ 45 ∷ 45 ∷ 45 ∷ 45 ∷ 45 ∷ 45 ∷ 45
@@ -240,12 +239,12 @@ row_three = refl
 -- 04 ------- ------- 1810422 00000A1 110 01 00000000000000000000000000000005 00
 pub row_four : row_text (record {
   cycle = 4;
-  fetch = Empty;
-  decode = Empty;
-  execute = Holds 0x1810422;
-  write = Holds 0xA1;
+  fetch = None;
+  decode = None;
+  execute = Some 0x1810422;
+  write = Some 0xA1;
   flags = record { rs1 = true; rs2 = true; rs3 = false };
-  change = To (record { 0 = 1 }) (record { value = record { w0 = 5; w1 = 0; w2 = 0; w3 = 0 }; mark = 0 });
+  change = Some ((record { 0 = 1 }), (record { value = record { w0 = 5; w1 = 0; w2 = 0; w3 = 0 }; mark = 0 }));
 })
     ≡ 48 ∷ 52
     ∷ 32 ∷ 45 ∷ 45 ∷ 45 ∷ 45 ∷ 45 ∷ 45 ∷ 45
@@ -266,17 +265,17 @@ no_hyphen d h e = let none : d ≡ 16 = sym (digit_meant d h) ∙ ap meant e in 
 
 -- both write and their marks agree as bytes, or neither writes
 abbrev pub SameMark : Change → Change → Type 0
-SameMark Nothing Nothing = Unit
-SameMark Nothing (To q u) = ⊥
-SameMark (To p o) Nothing = ⊥
-SameMark (To p o) (To q u) = o.mark % 2 ^ 8 ≡ u.mark % 2 ^ 8
+SameMark None None = Unit
+SameMark None (Some (q, u)) = ⊥
+SameMark (Some (p, o)) None = ⊥
+SameMark (Some (p, o)) (Some (q, u)) = o.mark % 2 ^ 8 ≡ u.mark % 2 ^ 8
 
 mark_told : (c d : Change) → mark_text c ≡ mark_text d → SameMark c d
 unfolding mark_text
-mark_told Nothing Nothing e = tt
-mark_told Nothing (To q u) e = no_hyphen (u.mark / 16 % 16) (omega arith) (sym (ap (λ (l : List ℕ). get_or l 0 0) e))
-mark_told (To p o) Nothing e = no_hyphen (o.mark / 16 % 16) (omega arith) (ap (λ (l : List ℕ). get_or l 0 0) e)
-mark_told (To p o) (To q u) e = same_hex 2 o.mark u.mark e
+mark_told None None e = tt
+mark_told None (Some (q, u)) e = no_hyphen (u.mark / 16 % 16) (omega arith) (sym (ap (λ (l : List ℕ). get_or l 0 0) e))
+mark_told (Some (p, o)) None e = no_hyphen (o.mark / 16 % 16) (omega arith) (ap (λ (l : List ℕ). get_or l 0 0) e)
+mark_told (Some (p, o)) (Some (q, u)) e = same_hex 2 o.mark u.mark e
 
 -- two rows with the same text
 pub same_mark : (r s : Row) → row_text r ≡ row_text s → SameMark r.change s.change

@@ -5,11 +5,10 @@ use Rattle.buffer.specs.Front.{from_start}
 use Rattle.register.specs.declared.Register.{Register}
 use Rattle.table.specs.Decided.{decided}
 use Rattle.table.specs.Refusal.{ROOM}
-use Rattle.row_rules.specs.declared.Stage.{Stage}
-use Rattle.row_rules.specs.declared.Stage.TheVariants.{Empty, Holds}
+use Rattle.row_rules.specs.Shown.{Stage}
+use Rattle.std.specs.declared.option.Option.TheVariants.{None, Some}
 use Rattle.row_rules.specs.declared.Flags.{Flags}
-use Rattle.row_rules.specs.declared.Change.{Change}
-use Rattle.row_rules.specs.declared.Change.TheVariants.{Nothing, To}
+use Rattle.row_rules.specs.Shown.{Change}
 use Rattle.row_rules.specs.declared.Row.{Row}
 
 -- "decimal digits", "upper-case hex digits": 0 to 9, A to F
@@ -30,8 +29,8 @@ hyphens k = replicate k 45
 
 -- "the words in IF, ID, EX, WB (seven upper-case hex digits, or seven hyphens when empty)"
 unfoldable pub stage_text : Stage → List ℕ
-stage_text Empty = hyphens 7
-stage_text (Holds w) = hex_digits 7 w
+stage_text None = hyphens 7
+stage_text (Some w) = hex_digits 7 w
 
 -- "three flags for rs1, rs2, rs3"
 abbrev pub flag_text : Bool → ℕ
@@ -42,21 +41,21 @@ flags_text f = flag_text f.rs1 ∷ flag_text f.rs2 ∷ flag_text f.rs3 ∷ []
 
 -- "the register written (two decimal digits, or `--`)"
 unfoldable pub number_text : Change → List ℕ
-number_text Nothing = hyphens 2
-number_text (To p o) = two_digits p.0
+number_text None = hyphens 2
+number_text (Some (p, o)) = two_digits p.0
 
 -- "its new value (32 upper-case hex digits, or 32 hyphens)"; "Bit 127 is leftmost"
 unfoldable pub register_text : Register → List ℕ
 register_text v = hex_digits 8 v.w3 ++ hex_digits 8 v.w2 ++ hex_digits 8 v.w1 ++ hex_digits 8 v.w0
 
 unfoldable pub value_text : Change → List ℕ
-value_text Nothing = hyphens 32
-value_text (To p o) = register_text o.value
+value_text None = hyphens 32
+value_text (Some (p, o)) = register_text o.value
 
 -- "a space and two upper-case hex digits before the newline, `--` where nothing is written"
 unfoldable pub mark_text : Change → List ℕ
-mark_text Nothing = hyphens 2
-mark_text (To p o) = hex_digits 2 o.mark
+mark_text None = hyphens 2
+mark_text (Some (p, o)) = hex_digits 2 o.mark
 
 -- "Fields, with one space between": every field but the first stands behind a space
 abbrev pub behind_space : List ℕ → List ℕ

@@ -5,14 +5,8 @@
 use alu_rules::Outcome;
 use table::Pointer;
 
-// The word in a stage.
-#[derive(Clone, Copy)]
-pub enum Stage {
-    // nothing is there: seven hyphens
-    Empty,
-    // the word of the instruction that is there
-    Holds(u32),
-}
+// The word of the instruction in a stage; where nothing is there, a row has seven hyphens.
+pub type Stage = Option<u32>;
 
 // For each operand of EX's instruction, whether it is WB's value; li's first operand is its rd.
 #[derive(Clone, Copy)]
@@ -22,14 +16,8 @@ pub struct Flags {
     pub rs3: bool,
 }
 
-// The register that WB writes, and what EX has made for it.
-#[derive(Clone, Copy)]
-pub enum Change {
-    // WB writes nothing: hyphens
-    Nothing,
-    // the register, and the outcome with its new value and its mark
-    To(Pointer, Outcome),
-}
+// The register that WB writes, and the outcome with its new value and its mark; where it writes nothing, a row has hyphens.
+pub type Change = Option<(Pointer, Outcome)>;
 
 // All that a row says: the cycle's number, the words in IF, ID, EX and WB, the flags, and what WB writes.
 #[derive(Clone, Copy)]

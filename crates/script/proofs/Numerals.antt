@@ -12,26 +12,26 @@ use lib.ListN.{length, get_or, drop, drop_of_length-le}
 use lib.Seq.{drop-cons}
 use Rattle.text_rules.specs.Number.{digit_of, positional, number_of}
 use Rattle.text_rules.proofs.Positional.{at_least}
-use Rattle.script.specs.declared.Number.{Number}
-use Rattle.script.specs.Numbers.{all_digits, unknown, said_in}
+use Rattle.std.specs.Prelude.{Some, None}
+use Rattle.script.specs.Numbers.{all_digits, said_in}
 
 -- ---- what digits say, by the tests
 
 module _ (base : ℕ) (l : List ℕ) where
   -- none at all
-  pub none_said : length l ≡ 0 → said_in base l ≡ unknown
+  pub none_said : length l ≡ 0 → said_in base l ≡ None
   unfolding said_in
   none_said e = simp (le-ltb 0 (length l) (omega arith))
 
-  not_digits : all_digits base l ≡ false → said_in base l ≡ unknown
+  not_digits : all_digits base l ≡ false → said_in base l ≡ None
   unfolding said_in
   not_digits e = simp (e, and-false)
 
-  above_limit : 2 ^ 32 ≤ number_of base l → said_in base l ≡ unknown
+  above_limit : 2 ^ 32 ≤ number_of base l → said_in base l ≡ None
   unfolding said_in
   above_limit h = simp (le-ltb (number_of base l) (2 ^ 32) h, and-false)
 
-  pub said : 0 < length l → all_digits base l ≡ true → number_of base l < 2 ^ 32 → said_in base l ≡ record { known = true; value = number_of base l }
+  pub said : 0 < length l → all_digits base l ≡ true → number_of base l < 2 ^ 32 → said_in base l ≡ Some (number_of base l)
   unfolding said_in
   said some e h = simp (lt-ltb 0 (length l) some, e, lt-ltb (number_of base l) (2 ^ 32) h)
 
@@ -49,7 +49,7 @@ none_so_far base l = record { within = omega arith; small = omega arith; test_le
 
 module _ {base : ℕ} {l : List ℕ} {value i : ℕ} (so_far : SaidSoFar base l value i) where
   -- behind the last of them
-  pub all_said : length l ≤ i → 0 < i → record { known = true; value = value } ≡ said_in base l
+  pub all_said : length l ≤ i → 0 < i → Some value ≡ said_in base l
   all_said h some =
       let none : drop i l ≡ [] = drop_of_length-le l h in
       let value_is : value ≡ number_of base l = sym (ap (λ (m : List ℕ). positional base value (map digit_of m)) none) ∙ so_far.value_left in
@@ -68,16 +68,16 @@ module _ {base : ℕ} {l : List ℕ} {value i : ℕ} (so_far : SaidSoFar base l 
     tested = sym so_far.test_left ∙ ap (all_digits base) apart
 
     -- a byte that is no digit of the base
-    pub no_digit : base ≤ d → {r : Number} → r ≡ unknown → r ≡ said_in base l
-    no_digit h e = e ∙ sym (not_digits base l (tested ∙ simp (← digit-is, le-ltb d base h)))
+    pub no_digit : base ≤ d → None ≡ said_in base l
+    no_digit h = sym (not_digits base l (tested ∙ simp (← digit-is, le-ltb d base h)))
 
     valued : positional base (base * value + d) (map digit_of (drop (i + 1) l)) ≡ number_of base l
     valued = rw digit-is (sym (ap (λ (m : List ℕ). positional base value (map digit_of m)) apart) ∙ so_far.value_left)
 
     -- a value that is too large, whatever digits follow
-    pub too_large : 0 < base → 2 ^ 32 ≤ base * value + d → {r : Number} → r ≡ unknown → r ≡ said_in base l
-    too_large some h e =
-        e ∙ sym (above_limit base l (omega (arith, valued, at_least base (base * value + d) (map digit_of (drop (i + 1) l)) some)))
+    pub too_large : 0 < base → 2 ^ 32 ≤ base * value + d → None ≡ said_in base l
+    too_large some h =
+        sym (above_limit base l (omega (arith, valued, at_least base (base * value + d) (map digit_of (drop (i + 1) l)) some)))
 
     -- one digit more
     pub digit_more : d < base → base * value + d < 2 ^ 32 → SaidSoFar base l (base * value + d) (i + 1)

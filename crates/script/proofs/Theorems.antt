@@ -7,6 +7,7 @@ use mathlib.Core.Bool.{true, false≢true}
 use mathlib.Core.List.{List, [], ◌∷◌, ◌++◌}
 use native.Mathlib.Omega.{arith}
 use lib.ListN.{length, replicate}
+use Rattle.std.specs.Prelude.{Some}
 use Rattle.text_rules.specs.Number.{digit_of, number_of, no_leading_zero, digits_for}
 use Rattle.text_rules.specs.Number.Notation.{decimal}
 use Rattle.text_rules.proofs.Numerals.{AllDigits, Numeral, decimal_says}
@@ -34,11 +35,11 @@ zeros_longer zero (d ∷ ds) e = omega arith
 zeros_longer (suc k) ds e = omega arith
 
 -- A number below 2^32, in decimal digits behind any number of zeros, is known.
-pub decimal_read : (zeros v : ℕ) → v < 2 ^ 32 → said_in 10 (replicate zeros 48 ++ digits_for decimal v) ≡ record { known = true; value = v }
+pub decimal_read : (zeros v : ℕ) → v < 2 ^ 32 → said_in 10 (replicate zeros 48 ++ digits_for decimal v) ≡ Some v
 decimal_read zeros v h =
     let ds : List ℕ = digits_for decimal v in
     let n : Numeral decimal v ds = decimal_says v in
     let all : List ℕ = replicate zeros 48 ++ ds in
     let value_is : number_of 10 all ≡ v = zeros_valued zeros ds ∙ n.says in
     said 10 all (zeros_longer zeros ds n.numeral) (zeros_tested zeros ds ∙ all_digits_lem ds n.digits) (omega arith)
-    ∙ ap (λ (x : ℕ). record { known = true; value = x }) value_is
+    ∙ ap (λ (x : ℕ). Some x) value_is

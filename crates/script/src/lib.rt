@@ -6,11 +6,4 @@ mod numbers;
 mod words;
 
 pub use crate::numbers::{decimal, hex};
-pub use crate::words::{line_end, same, word_end};
-
-// What digits say: whether that is a number below 2^32, and which; 0 where it is not.
-#[derive(Clone, Copy)]
-pub struct Number {
-    pub known: bool,
-    pub value: u32,
-}
+pub use crate::words::{first_line, first_word, line_end, word_end};

@@ -1,8 +1,7 @@
-// Where a line and a word end, and whether a word is a certain one.
+// Where a line and a word end, and what stands in front of that and behind it.
 
-ghost use Rattle.std.specs.Prelude.{◌≡◌};
-ghost use Rattle.text_rules.specs.Forms.{same_bytes};
-ghost use Rattle.script.specs.Words.{next_place, line_end, word_end};
+ghost use Rattle.std.specs.Prelude.{◌≡◌, option_map};
+ghost use Rattle.script.specs.Words.{next_place, line_end, word_end, apart_at, first_line, first_word};
 
 // Where the next such byte stands from a place on.
 fn next_place(text: &[u8], at: usize, byte: u8) -> usize
@@ -11,11 +10,8 @@ fn next_place(text: &[u8], at: usize, byte: u8) -> usize
     if at > text.len() {
         return text.len();
     }
-    let mut end = at;
-    while end < text.len() && text[end] != byte {
-        end += 1;
-    }
-    end
+    let rest = &text[at..];
+    at + rest.iter().position(|b| *b == byte).unwrap_or(rest.len())
 }
 
 // The end of the line that begins at a place: where the next newline stands, or the text's end. Of a place beyond the text that is the text's end too.
@@ -32,19 +28,26 @@ pub fn word_end(line: &[u8], at: usize) -> usize
     next_place(line, at, b' ')
 }
 
-// Whether two texts have the same bytes.
-pub fn same(a: &[u8], b: &[u8]) -> bool
-    ensures { result ≡ same_bytes a.now b.now }
+// What stands in front of a place, and what stands behind the byte there, if there is one.
+fn apart_at(text: &[u8], end: usize) -> (&[u8], Option<&[u8]>)
+    ensures { (result.0.now, option_map (λ rest. rest.now) result.1) ≡ apart_at end text.now }
 {
-    if a.len() != b.len() {
-        return false;
+    if end < text.len() {
+        return (&text[..end], Some(&text[end + 1..]));
     }
-    let mut i = 0;
-    while i < a.len() {
-        if a[i] != b[i] {
-            return false;
-        }
-        i += 1;
-    }
-    true
+    (text, None)
+}
+
+// The line in front of a text, and what stands behind its newline, if it has one.
+pub fn first_line(text: &[u8]) -> (&[u8], Option<&[u8]>)
+    ensures { (result.0.now, option_map (λ rest. rest.now) result.1) ≡ first_line text.now }
+{
+    apart_at(text, line_end(text, 0))
+}
+
+// The word in front of a line, and what stands behind the one space after it, if there is one.
+pub fn first_word(line: &[u8]) -> (&[u8], Option<&[u8]>)
+    ensures { (result.0.now, option_map (λ rest. rest.now) result.1) ≡ first_word line.now }
+{
+    apart_at(line, word_end(line, 0))
 }

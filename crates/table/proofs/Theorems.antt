@@ -1,6 +1,7 @@
 -- For the reader of specs/: the "reads" column as it is printed, row by row; the words that write nothing are exactly those whose operation is NOP, and every other
 -- word writes its rd, but register 0 in the second edition; the refusal numbers.
 -- Assumes nothing.
+use Rattle.table.specs.declared.Pointer.{Pointer}
 use Prim.Native.Nat.{ℕ, zero, suc, ◌<◌}
 use mathlib.Core.Path.{◌≡◌, refl, sym, ap, ◌∙◌}
 use mathlib.Core.Bool.{Bool, true, false, cond, ◌||◌, or-false}
@@ -11,8 +12,8 @@ use borrow.Author.Tests.{eq-eqb, ne_eqb}
 use lib.ListN.{get_or, get_or-replicate, get_or-map}
 use Rattle.table.specs.declared.Edition.{Edition}
 use Rattle.table.specs.declared.Edition.TheVariants.{One, Two}
-use Rattle.table.specs.declared.Target.{Target}
-use Rattle.table.specs.declared.Target.TheVariants.{None, To}
+use Rattle.std.specs.declared.option.Option.{Option}
+use Rattle.std.specs.declared.option.Option.TheVariants.{None, Some}
 use Rattle.table.specs.Fields.{is_li, is_multiply, is_long, is_subtract, is_high, code_of, rd_of}
 use Rattle.table.specs.Operation.{Operation, multiply_row, short_rows, operation_of, reads_of, takes_first, takes_second, takes_third, is_nop, is_wired, target_of}
 use Rattle.table.specs.Operation.Operation.{li, simal, simah, simsl, simsh, slmal, slmah, slmsl, slmsh}
@@ -95,32 +96,32 @@ pub nop_by_its_code : (w : ℕ) → nop? (operation_of w) ≡ is_nop w
 unfolding operation_of
 nop_by_its_code w = by_tests (is_li w) (is_multiply w) (is_long w) (is_subtract w) (is_high w) (code_of w) (omega arith)
 
-pub writes_by_operation : (edition : Edition) (w : ℕ) → target_of edition w ≡ cond (nop? (operation_of w) || is_wired edition (rd_of w)) None (To (rd_of w))
+pub writes_by_operation : (edition : Edition) (w : ℕ) → target_of edition w ≡ cond (nop? (operation_of w) || is_wired edition (rd_of w)) None (Some (rd_of w))
 unfolding target_of
-writes_by_operation edition w = ap (λ (t : Bool). cond (t || is_wired edition (rd_of w)) None (To (rd_of w))) (sym (nop_by_its_code w))
+writes_by_operation edition w = ap (λ (t : Bool). cond (t || is_wired edition (rd_of w)) None (Some (rd_of w))) (sym (nop_by_its_code w))
 
 -- ---- in each edition
 
 -- "Edition 1 .. is untouched": rd, or none for a NOP
-pub written_in_edition_1 : (w : ℕ) → target_of One w ≡ cond (is_nop w) None (To (rd_of w))
+pub written_in_edition_1 : (w : ℕ) → target_of One w ≡ cond (is_nop w) None (Some (rd_of w))
 unfolding target_of
-written_in_edition_1 w = ap (λ (t : Bool). cond t None (To (rd_of w))) (or-false (is_nop w))
+written_in_edition_1 w = ap (λ (t : Bool). cond t None (Some (rd_of w))) (or-false (is_nop w))
 
 -- In the second a word whose rd is 0 writes none, and every other word what it writes in the first
 pub dropped_in_edition_2 : (w : ℕ) → (rd_of w).0 ≡ 0 → target_of Two w ≡ None
 unfolding target_of
-dropped_in_edition_2 w e = ap (λ (t : Bool). cond t None (To (rd_of w))) (the_second (is_nop w) (eq-eqb (rd_of w).0 0 e))
+dropped_in_edition_2 w e = ap (λ (t : Bool). cond t None (Some (rd_of w))) (the_second (is_nop w) (eq-eqb (rd_of w).0 0 e))
 
 pub others_in_edition_2 : (w : ℕ) → ((rd_of w).0 ≡ 0 → ⊥) → target_of Two w ≡ target_of One w
 unfolding target_of
 others_in_edition_2 w h = rw (ne_eqb (rd_of w).0 0 h)
 
 -- in either: what holds of none, and of rd where it is not wired, holds of what a word writes
-pub each_target : (P : Target → Type 0) (edition : Edition) (w : ℕ) → P None → (is_wired edition (rd_of w) ≡ false → P (To (rd_of w))) → P (target_of edition w)
+pub each_target : (P : Option Pointer → Type 0) (edition : Edition) (w : ℕ) → P None → (is_wired edition (rd_of w) ≡ false → P (Some (rd_of w))) → P (target_of edition w)
 unfolding target_of
 each_target P edition w none some = go (is_nop w || is_wired edition (rd_of w)) refl
   where
-    go : (t : Bool) → (is_nop w || is_wired edition (rd_of w)) ≡ t → P (cond t None (To (rd_of w)))
+    go : (t : Bool) → (is_nop w || is_wired edition (rd_of w)) ≡ t → P (cond t None (Some (rd_of w)))
     go true q = none
     go false q = some (neither_held (is_nop w) (is_wired edition (rd_of w)) q).1
 

@@ -39,6 +39,10 @@ use Rattle.table.proofs.writes.is_wired.Kinds as is_wired_kinds
 use Rattle.table.proofs.writes.is_wired.Reads as is_wired_reads
 use Rattle.table.proofs.writes.target_of.Kinds as target_of_kinds
 use Rattle.table.proofs.writes.target_of.Reads as target_of_reads
+use Rattle.table.proofs.refusal.Refusal.number.Kinds as number_kinds
+use Rattle.table.proofs.refusal.Refusal.number.Reads as number_reads
+use Rattle.table.proofs.refusal.Refusal.place.Kinds as place_kinds
+use Rattle.table.proofs.refusal.Refusal.place.Reads as place_reads
 use Rattle.table.proofs.refusal.first_bad.Kinds as first_bad_kinds
 use Rattle.table.proofs.refusal.first_bad.Reads as first_bad_reads
 
@@ -102,3 +106,9 @@ target_of_unique = by_value (λ κs a. no_requires) (λ κs a v w. refl)
 
 pub first_bad_unique : Determined 1 first_bad_kinds.ps first_bad_kinds.r first_bad_reads.requires first_bad_reads.Post
 first_bad_unique = by_value (λ κs a. no_requires) (λ κs a v w. refl)
+
+pub number_unique : Determined 0 number_kinds.ps number_kinds.r number_reads.requires number_reads.Post
+number_unique = by_value (λ κs a. no_requires) (λ κs a v w. refl)
+
+pub place_unique : Determined 0 place_kinds.ps place_kinds.r place_reads.requires place_reads.Post
+place_unique = by_value (λ κs a. no_requires) (λ κs a v w. refl)

@@ -6,8 +6,8 @@ use Rattle.table.specs.declared.Edition.TheVariants.{One, Two}
 use Rattle.table.specs.declared.Pointer.{Pointer}
 use Rattle.table.specs.declared.Reads.{Reads}
 use Rattle.table.specs.declared.Reads.TheVariants.{Nothing, Rs1, Rs1Rs2, Rs1Rs2Rs3, Rd}
-use Rattle.table.specs.declared.Target.{Target}
-use Rattle.table.specs.declared.Target.TheVariants.{None, To}
+use Rattle.std.specs.declared.option.Option.{Option}
+use Rattle.std.specs.declared.option.Option.TheVariants.{None, Some}
 use Rattle.table.specs.Fields.{is_li, is_multiply, is_long, is_subtract, is_high, code_of, rd_of}
 
 -- li; multiply-add and multiply-subtract of words and of longs, low and high; the sixteen short codes
@@ -98,5 +98,5 @@ is_wired One p = false
 is_wired Two p = eqb p.0 0
 
 -- the register that a word writes, or none: NOP "writes nothing", and a write to a register that is wired to zero "is dropped"
-unfoldable pub target_of : Edition → ℕ → Target
-target_of edition w = cond (is_nop w || is_wired edition (rd_of w)) None (To (rd_of w))
+unfoldable pub target_of : Edition → ℕ → Option Pointer
+target_of edition w = cond (is_nop w || is_wired edition (rd_of w)) None (Some (rd_of w))

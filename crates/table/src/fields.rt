@@ -1,16 +1,32 @@
 // The fields of an instruction word. Only bits 24 to 0 are looked at.
 
-ghost use Rattle.std.specs.Prelude.{◌≡◌, ◌<◌};
+ghost use Rattle.std.specs.Prelude.{◌≡◌, ◌<◌, ◌/◌, ◌%◌, ◌^◌, eqb};
 ghost use Rattle.table.specs.Fields.{is_li, is_multiply, is_long, is_subtract, is_high, index_of, immediate_of, code_of, constant_of};
 ghost use Rattle.table.specs.Fields.{rd_of, rs1_of, rs2_of, rs3_of, first_of};
 
 use crate::Pointer;
 
+// Whether the bit of this weight is 1.
+fn is_set(w: u32, weight: u32) -> bool
+    requires { 0 < weight }
+    ensures { result ≡ eqb (w / weight % 2) 1 }
+{
+    w / weight % 2 == 1
+}
+
+// The register that the five bits from this weight on name.
+fn pointer_at(w: u32, weight: u32) -> Pointer
+    requires { 0 < weight }
+    ensures { (result ≡ record { 0 = w / weight % 2 ^ 5 }) × (result.0 < 32) }
+{
+    Pointer((w / weight % 32) as u8)
+}
+
 // Bit 24 is 0.
 pub fn is_li(w: u32) -> bool
     ensures { result ≡ is_li w }
 {
-    w / 0x100_0000 % 2 == 0
+    !is_set(w, 0x100_0000)
 }
 
 // Bits 24..23 are 10.
@@ -24,21 +40,21 @@ pub fn is_multiply(w: u32) -> bool
 pub fn is_long(w: u32) -> bool
     ensures { result ≡ is_long w }
 {
-    w / 0x40_0000 % 2 == 1
+    is_set(w, 0x40_0000)
 }
 
 // Bit 21, of the multiply family.
 pub fn is_subtract(w: u32) -> bool
     ensures { result ≡ is_subtract w }
 {
-    w / 0x20_0000 % 2 == 1
+    is_set(w, 0x20_0000)
 }
 
 // Bit 20, of the multiply family.
 pub fn is_high(w: u32) -> bool
     ensures { result ≡ is_high w }
 {
-    w / 0x10_0000 % 2 == 1
+    is_set(w, 0x10_0000)
 }
 
 // Bits 23..21, of li: the halfword that is set.
@@ -73,28 +89,28 @@ pub fn constant(w: u32) -> u32
 pub fn rd(w: u32) -> Pointer
     ensures { (result ≡ rd_of w) × (result.0 < 32) }
 {
-    Pointer((w % 32) as u8)
+    pointer_at(w, 1)
 }
 
 // Bits 9..5.
 pub fn rs1(w: u32) -> Pointer
     ensures { (result ≡ rs1_of w) × (result.0 < 32) }
 {
-    Pointer((w / 0x20 % 32) as u8)
+    pointer_at(w, 0x20)
 }
 
 // Bits 14..10.
 pub fn rs2(w: u32) -> Pointer
     ensures { (result ≡ rs2_of w) × (result.0 < 32) }
 {
-    Pointer((w / 0x400 % 32) as u8)
+    pointer_at(w, 0x400)
 }
 
 // Bits 19..15, of the multiply family.
 pub fn rs3(w: u32) -> Pointer
     ensures { (result ≡ rs3_of w) × (result.0 < 32) }
 {
-    Pointer((w / 0x8000 % 32) as u8)
+    pointer_at(w, 0x8000)
 }
 
 // The register of the first operand: li's is its own rd.

@@ -8,15 +8,15 @@ pub mod refusal;
 pub mod writes;
 
 // A register's number, 0 to 31.
-#[derive(Clone, Copy)]
+#[derive(Clone, Copy, PartialEq, Eq)]
 pub struct Pointer(pub u8);
 
 // A number of program lines, 0 to 64.
-#[derive(Clone, Copy)]
+#[derive(Clone, Copy, PartialEq, Eq, PartialOrd, Ord)]
 pub struct Count(pub u8);
 
 // Which fields of a word name registers that it reads: the entries of the table's "reads" column, the multiply family's and li's.
-#[derive(Clone, Copy)]
+#[derive(Clone, Copy, PartialEq, Eq)]
 pub enum Reads {
     // none: NOP
     Nothing,
@@ -30,17 +30,8 @@ pub enum Reads {
     Rd,
 }
 
-// The register that a word writes, or none.
-#[derive(Clone, Copy)]
-pub enum Target {
-    // a NOP writes nothing, and a write to a register that is wired to zero is dropped
-    None,
-    // rd of any other word
-    To(Pointer),
-}
-
 // The edition of a card: boards of both run side by side.
-#[derive(Clone, Copy)]
+#[derive(Clone, Copy, PartialEq, Eq)]
 pub enum Edition {
     // all registers can be written
     One,

@@ -1,51 +1,31 @@
--- The row of a key, looked for from any row on. Carried by `drop-cons`: the rows from one on are that row and those from the next on.
+-- The row of a key: the place of the first row of the table that has it. Carried by induction over the forms.
 -- Assumes nothing.
-use Prim.Native.Nat.{ℕ, suc, ◌+◌, ◌*◌, ◌≤◌, ◌<◌}
-use mathlib.Core.Path.{◌≡◌, sym, ap, ◌∙◌}
-use mathlib.Core.Bool.{Bool, true, false}
-use mathlib.Core.List.{List}
-use native.Mathlib.Numerals.{add-one}
+use Prim.Native.Nat.{ℕ, suc, ◌+◌}
+use mathlib.Core.Path.{◌≡◌, refl, ap, ◌∙◌}
+use mathlib.Core.Bool.{Bool, true, false, cond, not}
+use mathlib.Core.List.{List, [], ◌∷◌, map}
 use native.Mathlib.Omega.{arith}
-use borrow.Author.Tests.{eq-eqb, ne_eqb}
-use lib.Dec.{eqb}
-use lib.ListN.{length, get_or, drop, drop_of_length-le}
-use lib.Seq.{drop-cons}
+use lib.Dec.{ltb, eqb}
+use Rattle.std.specs.Prelude.{Some, None, position}
+use Rattle.std.specs.List.{position_or_len}
 use Rattle.text_rules.specs.Forms.{Form, every_form, first_row}
-use Rattle.text_table.specs.Table.{key_of, form_table}
-use Rattle.text_table.proofs.Cells.{key_there}
-use Rattle.text_reader.specs.Keys.{row_keyed}
+use Rattle.text_table.specs.declared.rows.Row.{Row}
+use Rattle.text_table.specs.Table.{key_of, row_of, form_table}
+use Rattle.text_reader.specs.Keys.{row_found}
 
--- ---- in any list of forms
+module _ (key : ℕ) where
+  abbrev has_key : Row → Bool
+  has_key r = eqb r.key key
 
-module _ (test : Form → Bool) (fs : List Form) (d : Form) (row : ℕ) (h : row < length fs) where
-  first_here : test (get_or fs row d) ≡ true → first_row test (drop row fs) ≡ 0
+  counted : (t : Bool) {a b : ℕ} → a ≡ b → cond (not t) (1 + a) 0 ≡ cond t 0 (suc b)
+  counted true e = refl
+  counted false e = omega arith
+
+  place_lem : (fs : List Form) → position_or_len has_key (map row_of fs) ≡ first_row (λ (f : Form). eqb (key_of f.name) key) fs
   unfolding first_row
-  first_here e = rw (drop-cons fs row d h) (simp e)
+  place_lem [] = refl
+  place_lem (f ∷ fs) = counted (eqb (key_of f.name) key) (place_lem fs)
 
-  first_later : test (get_or fs row d) ≡ false → first_row test (drop row fs) ≡ suc (first_row test (drop (row + 1) fs))
-  unfolding first_row
-  first_later e = rw (drop-cons fs row d h, add-one) (simp e)
-
--- ---- in the table
-
-abbrev has_key : ℕ → Form → Bool
-has_key key f = eqb (key_of f.name) key
-
--- the row of a key, from a row on
-abbrev pub From : ℕ → ℕ → Type 0
-From key row = row + first_row (has_key key) (drop row every_form) ≡ row_keyed key
-
--- in the table as the code has it
-module _ {table : List ℕ} (e : table ≡ form_table) (key row : ℕ) (h : row < 26) (from : From key row) where
-  -- the row has the key
-  pub key_here : get_or table (11 * row) 0 ≡ key → row ≡ row_keyed key
-  key_here k = omega (arith, first_here (has_key key) every_form _ row h (eq-eqb _ _ (sym (key_there e row h) ∙ k)))
-
-  -- it has another: the next row
-  pub key_later : (get_or table (11 * row) 0 ≡ key → ⊥) → From key (row + 1)
-  key_later n = omega (arith, first_later (has_key key) every_form _ row h (ne_eqb _ _ (λ k. n (key_there e row h ∙ k))))
-
--- behind the last row none has it
-pub key_never : (key row : ℕ) → 26 ≤ row → From key row → row ≡ row_keyed key
-unfolding first_row
-key_never key row h from = omega (arith, ap (first_row (has_key key)) (drop_of_length-le every_form h))
+  pub found_lem : {rows : List Row} → rows ≡ form_table → position has_key rows ≡ row_found key
+  unfolding form_table
+  found_lem e = ap (position has_key) e ∙ ap (λ (i : ℕ). cond (ltb i 26) (Some i) None) (place_lem every_form)

@@ -16,7 +16,7 @@ use Rattle.text_rules.proofs.Rows.{both, every, same_bytes_lem, same_as_itself, 
 use Rattle.text_rules.proofs.Stated.{found}
 use Rattle.text_table.specs.Table.{key_of}
 use Rattle.text_reader.specs.Keys.{row_keyed}
-use Rattle.text_table.proofs.Operands.{at_most_lem}
+use Rattle.text_table.proofs.Cells.{at_most_lem}
 
 -- ---- keys
 

@@ -99,7 +99,3 @@ module _ (text : List ℕ) (key size : ℕ) (so_far : NameSoFar text key size) w
   -- the end of the text
   pub text_ends : ltb size (length text) ≡ false → NameRead (record { key = key; size = size }) text
   text_ends off = name_read (none_left text size (ltb-false size (length text) off))
-
-  -- seven bytes
-  pub seven_read : 7 ≤ size → NameRead (record { key = key; size = size }) text
-  seven_read h = name_read (none_asked text size h)

@@ -6,13 +6,12 @@ use mathlib.Core.List.{List, [], ◌∷◌, ◌++◌}
 use native.Mathlib.Omega.{arith}
 use lib.ListN.{length, take, drop, set, replicate, drop_of_length-le, length-append, length-drop}
 use lib.Seq.{take_all, drop-drop}
+use Rattle.std.specs.Prelude.{Ok}
 use Rattle.table.specs.Refusal.{LINES}
 use Rattle.job_rules.specs.Read.{filled}
 use Rattle.job_rules.proofs.Pieces.{one_filled}
-use Rattle.text_rules.specs.declared.Line.{Line}
-use Rattle.text_rules.specs.declared.ReadText.{ReadText}
-use Rattle.text_rules.specs.Line.{line_of}
-use Rattle.text_rules.specs.Text.{refused_text, read_from, read_text_of}
+use Rattle.text_rules.specs.Line.{Line, line_of}
+use Rattle.text_rules.specs.Text.{said_text, refused_text, read_from, read_text_of}
 use Rattle.text_rules.proofs.Fits.{line_fits}
 use Rattle.text_rules.proofs.Reading.{at_end, one_too_many, refused_there, goes_on_lem}
 
@@ -38,7 +37,7 @@ no_line text = record {
 
 module _ {text words : List ℕ} {n at : ℕ} (so_far : TextSoFar text words n at) where
   -- nothing is left: the text is accepted
-  pub text_ended : length text ≤ at → record { refusal = 0; line = 0; words = words; n = record { 0 = n } } ≡ read_text_of text
+  pub text_ended : length text ≤ at → said_text (Ok (record { words = words; n = record { 0 = n } })) ≡ read_text_of text
   text_ended h =
       rw (so_far.stored, so_far.count)
       (sym (at_end (64 - n) so_far.said) ∙ ap (read_from (64 - n) so_far.said) (sym (drop_of_length-le text h)) ∙ so_far.same)
@@ -51,11 +50,11 @@ module _ {text words : List ℕ} {n at : ℕ} (so_far : TextSoFar text words n a
     with_left left e = ap (λ (k : ℕ). read_from k so_far.said (drop at text)) (sym e) ∙ so_far.same
 
     -- a 65th line
-    pub line_65 : n ≡ 64 → {r : ReadText} → r ≡ refused_text LINES n → r ≡ read_text_of text
-    line_65 full e =
-        e ∙ ap (refused_text LINES) so_far.count ∙ sym (one_too_many so_far.said (drop at text) some_left) ∙ with_left 0 (omega arith)
+    pub line_65 : n ≡ 64 → refused_text LINES n ≡ read_text_of text
+    line_65 full =
+        ap (refused_text LINES) so_far.count ∙ sym (one_too_many so_far.said (drop at text) some_left) ∙ with_left 0 (omega arith)
 
-    module _ (room : n ≡ 64 → ⊥) (line : Line) (read : line ≡ line_of (take (length text - at) (drop at text))) where
+    module _ (room : n ≡ 64 → ⊥) {line : Line} (read : line ≡ line_of (take (length text - at) (drop at text))) where
       below : n < 64
       below = omega (arith, so_far.few)
 
@@ -66,11 +65,10 @@ module _ {text words : List ℕ} {n at : ℕ} (so_far : TextSoFar text words n a
       line_is = read ∙ ap line_of (take_all (length text - at) (drop at text) (omega (arith, length-drop at text)))
 
       -- a faulty line
-      pub line_refused : (line.refusal ≡ 0 → ⊥) → {r : ReadText} → r ≡ refused_text line.refusal n → r ≡ read_text_of text
-      line_refused bad e =
+      pub line_refused : (line.refusal ≡ 0 → ⊥) → refused_text line.refusal n ≡ read_text_of text
+      line_refused bad =
           let number : line.refusal ≡ (line_of (drop at text)).refusal = ap (λ (x : Line). x.refusal) line_is in
-          e
-          ∙ ap (λ (k : ℕ). refused_text k n) number
+          ap (λ (k : ℕ). refused_text k n) number
           ∙ ap (refused_text (line_of (drop at text)).refusal) so_far.count
           ∙ sym (refused_there (64 - (n + 1)) so_far.said (drop at text) some_left (λ z. bad (number ∙ z)))
           ∙ with_left (suc (64 - (n + 1))) one_less

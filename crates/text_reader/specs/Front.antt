@@ -1,6 +1,6 @@
 -- What is read at the front of a text.
 -- Assumes nothing.
-use Rattle.std.specs.Prelude.{ℕ, ◌≡◌, true, cond, List, eqb, length, take}
+use Rattle.std.specs.Prelude.{ℕ, ◌+◌, ◌≡◌, cond, Option, Some, None, List, eqb, length, take, drop}
 use Rattle.text_rules.specs.Line.{name_in}
 use Rattle.text_rules.specs.Number.{Notation, base_of, digits_in, number_of, says_below}
 use Rattle.text_rules.specs.Number.Notation.{decimal, seven_hex}
@@ -30,8 +30,8 @@ pub record DigitsRead (base : ℕ) (l : List ℕ) (number count : ℕ) : Type 0 
   pub value : number ≡ number_of base (digits_in base l)
   pub size : count ≡ length (digits_in base l)
 
--- whether the digits say a number below the limit, and then that number and how many they are
-pub record NumberRead (r : Number) (notation : Notation) (limit : ℕ) (l : List ℕ) : Type 0 where
-  pub below : r.below ≡ says_below notation limit (digits_in (base_of notation) l)
-  pub value : r.below ≡ true → r.value ≡ number_of (base_of notation) (digits_in (base_of notation) l)
-  pub size : r.below ≡ true → r.size ≡ length (digits_in (base_of notation) l)
+-- that number and where the digits end, where those at a place say a number below the limit
+unfoldable pub number_at : Notation → ℕ → ℕ → List ℕ → Option Number
+number_at notation limit at text =
+    let digits : List ℕ = digits_in (base_of notation) (drop at text) in
+    cond (says_below notation limit digits) (Some (record { value = number_of (base_of notation) digits; end = at + length digits })) None

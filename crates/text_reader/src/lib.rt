@@ -2,10 +2,10 @@
 
 #![tactic(auto)]
 
-ghost use Rattle.std.specs.Prelude.{◌≤◌, ◌≡◌};
-ghost use Rattle.text_rules.specs.Line.{refused_line, line_of};
-ghost use Rattle.text_rules.specs.Text.{refused_text, read_text_of, bytes_to_read};
-ghost use Rattle.text_table.specs.Table.{form_table};
+ghost use Rattle.std.specs.Prelude.{◌≡◌};
+ghost use Rattle.text_rules.specs.Line.{line_of};
+ghost use Rattle.text_rules.specs.Text.{said_text, read_text_of, bytes_to_read};
+ghost use Rattle.text_reader.specs.Said.{said_line};
 
 mod forms;
 mod name;
@@ -14,10 +14,11 @@ mod operands;
 
 use crate::forms::row_of;
 use crate::name::name_in;
-use crate::operands::operands_in;
-use table::{Count, refusal};
-use text_rules::{Line, ReadText};
-use text_table::{ROWS, forms};
+use crate::operands::{Line, operands_in};
+use table::Count;
+use table::refusal::Refusal;
+use text_rules::{Faulty, ReadWords};
+use text_table::Forms;
 
 // So many bytes of a text decide its answer: a program need not read more of any input.
 pub const BYTES_TO_READ: usize = 1217;
@@ -29,81 +30,47 @@ pub fn bytes_to_read() -> usize
     BYTES_TO_READ
 }
 
-fn refused_line(number: u32) -> Line
-    ensures { result ≡ refused_line number }
-{
-    Line {
-        refusal: number,
-        word: 0,
-        size: 0,
-    }
-}
-
 // The line in front of a text.
-fn line_in(text: &[u8], table: &[u64]) -> Line
-    requires { table.now ≡ form_table }
-    ensures { result ≡ line_of text.now }
+fn line_in(text: &[u8], forms: &Forms) -> Result<Line, Refusal>
+    ensures { said_line result ≡ line_of text.now }
 {
     let name = name_in(text);
-    let row = row_of(table, name.key);
-    if row >= ROWS {
-        return refused_line(refusal::NAME);
-    }
-    let said = operands_in(text, name.size, table, row);
-    if !said.stated {
-        return refused_line(refusal::OPERANDS);
-    }
-    Line {
-        refusal: 0,
-        word: said.word,
-        size: said.size,
-    }
+    let row = row_of(forms, name.key).ok_or(Refusal::Name)?;
+    operands_in(text, name.size, forms, row).ok_or(Refusal::Operands)
 }
 
-fn refused(number: u32, good: usize) -> ReadText
-    requires { good ≤ 64 }
-    ensures { result ≡ refused_text number good }
+// Reads a program text: its words, or why it is refused and its first faulty line. A refusal is taken out by `match`, not by `map_err` and `?`: the proof of the
+// latter did not close. The loop goes from line to line and counts no index.
+pub fn read_text(text: &[u8]) -> Result<ReadWords, Faulty>
+    ensures { said_text result ≡ read_text_of text.now }
 {
-    let words = [0u32; 64];
-    ReadText {
-        refusal: number,
-        line: good + 1,
-        words,
-        n: Count(0),
-    }
-}
-
-fn read_by(text: &[u8], table: &[u64]) -> ReadText
-    requires { table.now ≡ form_table }
-    ensures { result ≡ read_text_of text.now }
-{
+    let forms = Forms::table();
     let mut words = [0u32; 64];
     let mut n = 0;
     let mut at = 0;
     while at < text.len() {
+        let here = n + 1;
         if n == 64 {
-            return refused(refusal::LINES, n);
+            return Err(Faulty {
+                refusal: Refusal::Lines,
+                line: here,
+            });
         }
-        let line = line_in(&text[at..], table);
-        if line.refusal != 0 {
-            return refused(line.refusal, n);
-        }
+        let line = match line_in(&text[at..], &forms) {
+            Ok(line) => line,
+            Err(refusal) => {
+                return Err(Faulty {
+                    refusal,
+                    line: here,
+                });
+            }
+        };
         words[n] = line.word;
-        n += 1;
+        n = here;
         at += line.size;
     }
-    ReadText {
-        refusal: 0,
-        line: 0,
+    Ok(ReadWords {
         words,
         n: Count(n as u8),
-    }
-}
-
-// Reads a program text: its words, or the number that it is refused with and its first faulty line.
-pub fn read_text(text: &[u8]) -> ReadText
-    ensures { result ≡ read_text_of text.now }
-{
-    let table = forms();
-    read_by(text, &table)
+    })
 }

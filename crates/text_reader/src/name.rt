@@ -20,7 +20,7 @@ fn in_name(b: u8) -> bool
     b != b' ' && b != b'\n'
 }
 
-// The bytes up to the first space, newline or end, seven at most.
+// The bytes up to the first space, newline or end, seven at most. A `for` would have two of the three tests as exits in its body.
 pub(crate) fn name_in(text: &[u8]) -> Name
     ensures { NameRead result text.now }
 {

@@ -1,86 +1,70 @@
 // A number in digits of a base, 10 or 16.
 
-ghost use Rattle.std.specs.Prelude.{◌≡◌, false, ◌-◌, ◌^◌, ◌≤◌, length, drop};
-ghost use Rattle.text_rules.specs.Number.{base_of, digits_in, is_numeral};
-ghost use Rattle.text_reader.specs.Front.{notation_of, DigitsRead, NumberRead};
+ghost use Rattle.std.specs.Prelude.{◌≡◌, ◌-◌, ◌^◌, ◌≤◌, length, drop};
+ghost use Rattle.text_rules.specs.Number.{base_of, is_numeral};
+ghost use Rattle.text_reader.specs.Front.{notation_of, DigitsRead, number_at};
 
 use text_table::digit;
 
 // So many digits a number in hex has.
 const HEX_DIGITS: usize = 7;
 
-// Whether there is a number below its limit; then the number, and how many digits it has.
+// A number, and where its digits end.
 #[derive(Clone, Copy)]
 pub(crate) struct Number {
-    pub(crate) below: bool,
-    pub(crate) value: u64,
-    pub(crate) size: usize,
+    pub(crate) value: u32,
+    pub(crate) end: usize,
 }
 
-fn none() -> Number
-    ensures { result ≡ record { below = false; value = 0; size = 0 } }
-{
-    Number {
-        below: false,
-        value: 0,
-        size: 0,
-    }
-}
-
-// Whether the digits from a place to their end are a numeral: in hex seven of them, in decimal one or more without a leading zero.
-fn is_numeral(text: &[u8], at: usize, end: usize, base: u64) -> bool
-    requires { (at ≤ end) × (end ≤ length text.now) × (end - at ≡ length (digits_in base (drop at text.now))) }
-    ensures { result ≡ is_numeral (notation_of base) (digits_in base (drop at text.now)) }
+// Whether digits are a numeral: in hex seven of them, in decimal one or more without a leading zero.
+fn is_numeral(digits: &[u8], base: u32) -> bool
+    ensures { result ≡ is_numeral (notation_of base) digits.now }
 {
     if base == 16 {
-        return end - at == HEX_DIGITS;
+        return digits.len() == HEX_DIGITS;
     }
-    end != at && (text[at] != b'0' || end == at + 1)
+    match digits {
+        [] => false,
+        [_] => true,
+        [first, ..] => *first != b'0',
+    }
 }
 
 // What the digits from a place to their end say, by the number that they make.
-fn judged(text: &[u8], at: usize, end: usize, base: u64, value: u64, limit: u64) -> Number
-    requires { (at ≤ end) × (end ≤ length text.now) × (base ≡ base_of (notation_of base)) × DigitsRead base (drop at text.now) value (end - at) }
-    ensures { NumberRead result (notation_of base) limit (drop at text.now) }
+fn judged<const BASE: u32>(
+    text: &[u8],
+    at: usize,
+    end: usize,
+    value: u32,
+    limit: u32,
+) -> Option<Number>
+    requires { (at ≤ end) × (end ≤ length text.now) × (BASE ≡ base_of (notation_of BASE)) × DigitsRead BASE (drop at text.now) value (end - at) }
+    ensures { result ≡ number_at (notation_of BASE) limit at text.now }
 {
-    if value >= limit || !is_numeral(text, at, end, base) {
-        return none();
+    if value >= limit || !is_numeral(&text[at..end], BASE) {
+        return None;
     }
-    Number {
-        below: true,
-        value,
-        size: end - at,
-    }
+    Some(Number { value, end })
 }
 
-// The number at a place, in digits of the base. They are looked at only while their number is below the limit, so that it never wraps, however many follow.
-fn in_base(text: &[u8], at: usize, base: u64, limit: u64) -> Number
-    requires { (at ≤ length text.now) × (base ≡ base_of (notation_of base)) × (limit ≤ 2 ^ 25) }
-    ensures { NumberRead result (notation_of base) limit (drop at text.now) }
+// The number below the limit at a place, in digits of the base. They are looked at only while their number is below the limit, so that it never wraps, however many follow.
+// A loop over the part of the text from there on would have its bounds computed anew for each number.
+pub(crate) fn number_in<const BASE: u32>(text: &[u8], at: usize, limit: u32) -> Option<Number>
+    requires { (at ≤ length text.now) × (BASE ≡ base_of (notation_of BASE)) × (limit ≤ 2 ^ 25) }
+    ensures { result ≡ number_at (notation_of BASE) limit at text.now }
 {
-    let mut value: u64 = 0;
+    let mut value = 0;
     let mut end = at;
     while end < text.len() {
         let d = digit(text[end]);
-        if d >= base {
+        if d >= BASE as u64 {
             break;
         }
         if value >= limit {
-            return none();
+            return None;
         }
-        value = base * value + d;
+        value = BASE * value + d as u32;
         end += 1;
     }
-    judged(text, at, end, base, value, limit)
-}
-
-// The same, by a call for each base. They name it, so that the compiler makes a loop of its own for each, and decimal digits are as quick to read as if there were no others.
-pub(crate) fn number_in(text: &[u8], at: usize, base: u64, limit: u64) -> Number
-    requires { (at ≤ length text.now) × (base ≡ base_of (notation_of base)) × (limit ≤ 2 ^ 25) }
-    ensures { NumberRead result (notation_of base) limit (drop at text.now) }
-{
-    if base == 16 {
-        return in_base(text, at, 16, limit);
-    }
-    in_base(text, at, 10, limit)
+    judged::<BASE>(text, at, end, value, limit)
 }

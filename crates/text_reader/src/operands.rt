@@ -1,68 +1,72 @@
 // What stands behind a name: the operands, one space and a number each, and the newline.
 
-ghost use Rattle.std.specs.Prelude.{◌≡◌, ◌≤◌, ◌<◌, ◌^◌, length, drop, []};
+ghost use Rattle.std.specs.Prelude.{◌≡◌, ◌≤◌, ◌<◌, length, drop, []};
 ghost use Rattle.text_rules.specs.Forms.{form_at};
-ghost use Rattle.text_rules.specs.Number.{Notation};
-ghost use Rattle.text_rules.specs.Line.{begins_with, not_stated, operands_in};
-ghost use Rattle.text_table.specs.Table.{form_table};
+ghost use Rattle.text_rules.specs.Number.{Notation, base_of};
+ghost use Rattle.text_rules.specs.Line.{begins_with, operands_in};
+ghost use Rattle.text_reader.specs.Said.{said_operands};
 
 use crate::number::number_in;
-use text_rules::Operands;
-use text_table::{BASE_AT, OPERANDS_AT, WIDTH, WORD_AT};
+use text_table::Forms;
 
-fn begins_with(text: &[u8], at: usize, b: u8) -> bool
-    requires { at ≤ length text.now }
-    ensures { result ≡ begins_with b (drop at text.now) }
-{
-    at < text.len() && text[at] == b
+// What a line says: its word, and how many bytes it has with its newline.
+#[derive(Clone, Copy)]
+pub(crate) struct Line {
+    pub(crate) word: u32,
+    pub(crate) size: usize,
 }
 
-fn not_stated() -> Operands
-    ensures { result ≡ not_stated }
+fn begins_with(text: &[u8], at: usize, b: u8) -> bool
+    ensures { result ≡ begins_with b (drop at text.now) }
 {
-    Operands {
-        stated: false,
-        word: 0,
-        size: 0,
-    }
+    text.get(at) == Some(&b)
 }
 
 // Behind the last operand, whatever the notation.
-fn ended(text: &[u8], at: usize, word: u64) -> Operands
-    requires { (at ≤ length text.now) × (word < 2 ^ 25) }
-    ensures { (notation : Notation) → result ≡ operands_in notation [] word at (drop at text.now) }
+fn ended(text: &[u8], at: usize, word: u32) -> Option<Line>
+    ensures { (notation : Notation) → said_operands result ≡ operands_in notation [] word at (drop at text.now) }
 {
-    if begins_with(text, at, b'\n') {
-        return Operands {
-            stated: true,
-            word: word as u32,
-            size: at + 1,
-        };
+    if !begins_with(text, at, b'\n') {
+        return None;
     }
-    not_stated()
+    Some(Line { word, size: at + 1 })
 }
 
-// The operands of the form in that row, behind a name of so many bytes.
-pub(crate) fn operands_in(text: &[u8], start: usize, table: &[u64], row: usize) -> Operands
-    requires { (table.now ≡ form_table) × (row < 26) × (start ≤ length text.now) }
-    ensures { result ≡ operands_in (form_at row).notation (form_at row).operands (form_at row).word start (drop start text.now) }
+// The operands of the form in that row, whose digits have this base, behind a name of so many bytes: none where anything is not as stated. A row is a place in an
+// array, and its bound is asked for where it is read: a type for it would be taken apart there at once.
+fn operands_by<const BASE: u32>(
+    text: &[u8],
+    start: usize,
+    forms: &Forms,
+    row: usize,
+) -> Option<Line>
+    requires { (row < 26) × (start ≤ length text.now) × (BASE ≡ base_of (form_at row).notation) }
+    ensures { said_operands result ≡ operands_in (form_at row).notation (form_at row).operands (form_at row).word start (drop start text.now) }
 {
+    let form = &forms.rows[row];
     let mut at = start;
-    let base = table[WIDTH * row + BASE_AT];
-    let mut word = table[WIDTH * row + WORD_AT];
-    let mut cell = WIDTH * row + OPERANDS_AT;
-    let end = WIDTH * row + WIDTH;
-    while cell < end && table[cell] != 0 {
+    let mut word = form.word;
+    for slot in &form.operands {
+        let Some(operand) = slot else {
+            break;
+        };
         if !begins_with(text, at, b' ') {
-            return not_stated();
+            return None;
         }
-        let number = number_in(text, at + 1, base, table[cell]);
-        if !number.below {
-            return not_stated();
-        }
-        word += number.value * table[cell + 1];
-        at += 1 + number.size;
-        cell += 2;
+        let number = number_in::<BASE>(text, at + 1, operand.limit)?;
+        word += number.value * operand.weight;
+        at = number.end;
     }
     ended(text, at, word)
+}
+
+// The same, by a function for each base, so that decimal digits are as quick to read as if there were no others.
+pub(crate) fn operands_in(text: &[u8], start: usize, forms: &Forms, row: usize) -> Option<Line>
+    requires { (row < 26) × (start ≤ length text.now) }
+    ensures { said_operands result ≡ operands_in (form_at row).notation (form_at row).operands (form_at row).word start (drop start text.now) }
+{
+    if forms.rows[row].base == 16 {
+        return operands_by::<16>(text, start, forms, row);
+    }
+    operands_by::<10>(text, start, forms, row)
 }

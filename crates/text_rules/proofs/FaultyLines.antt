@@ -9,13 +9,11 @@ use native.Mathlib.Omega.{arith}
 use lib.Dec.{leb}
 use lib.ListN.{length, drop, length-append, length-map}
 use Rattle.table.specs.Refusal.{NAME, OPERANDS, LINES}
-use Rattle.text_rules.specs.declared.Line.{Line}
-use Rattle.text_rules.specs.declared.ReadText.{ReadText}
 use Rattle.text_rules.specs.Forms.{Form, form_at, row_named}
 use Rattle.text_rules.specs.Front.{front_while}
 use Rattle.text_rules.specs.Number.{Notation, base_of, digit_of, is_digit, digits_for}
-use Rattle.text_rules.specs.Line.{NEWLINE, in_name, name_in, refused_line, line_of}
-use Rattle.text_rules.specs.Text.{refused_text, read_from, read_text_of}
+use Rattle.text_rules.specs.Line.{Line, NEWLINE, in_name, name_in, refused_line, line_of}
+use Rattle.text_rules.specs.Text.{ReadText, refused_text, read_from, read_text_of}
 use Rattle.text_rules.specs.Number.Notation.{decimal, seven_hex}
 use Rattle.text_rules.specs.Listing.{numbers_text}
 use Rattle.text_rules.proofs.Fronts.{All, all_map, all_append}

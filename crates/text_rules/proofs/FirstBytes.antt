@@ -12,12 +12,11 @@ use lib.ListN.{length, take, drop, replicate, length-take, take-append-drop}
 use lib.Seq.{take_all, take-nil, take-append-add, drop-append_seam, length-take-le}
 use Rattle.table.specs.Decided.{decided}
 use Rattle.table.specs.Refusal.{NAME, OPERANDS}
-use Rattle.text_rules.specs.declared.Line.{Line}
 use Rattle.text_rules.specs.Letters.{s}
 use Rattle.text_rules.specs.Forms.{first_row, form_at, row_named}
 use Rattle.text_rules.specs.Front.{front_while}
 use Rattle.text_rules.specs.Number.{digit_of, says_below, decimal_in}
-use Rattle.text_rules.specs.Line.{in_name, name_in, operands_in, refused_line, line_of}
+use Rattle.text_rules.specs.Line.{Line, in_name, name_in, operands_in, refused_line, line_of}
 use Rattle.text_rules.specs.Text.{refused_text, read_from, read_text_of, bytes_to_read}
 use Rattle.text_rules.specs.Listing.{line_text}
 use Rattle.text_rules.proofs.Fronts.{front_cut}

@@ -8,11 +8,9 @@ use native.Mathlib.Omega.{arith}
 use borrow.Author.Tests.{eqb-true, leb-false, not-false}
 use lib.ListN.{length, drop, length-drop}
 use Rattle.table.proofs.Decided.{none_refused, passes, ends}
-use Rattle.text_rules.specs.declared.Operands.{Operands}
-use Rattle.text_rules.specs.declared.Line.{Line}
 use Rattle.text_rules.specs.Forms.{Operand, form_at, row_named}
 use Rattle.text_rules.specs.Number.{Notation, base_of, is_digit, digits_in, number_of, says_below}
-use Rattle.text_rules.specs.Line.{SPACE, NEWLINE, begins_with, in_name, name_in, not_stated, operands_in, behind_name, accepted_line, line_of}
+use Rattle.text_rules.specs.Line.{Line, Operands, SPACE, NEWLINE, begins_with, in_name, name_in, not_stated, operands_in, behind_name, accepted_line, line_of}
 use Rattle.text_rules.proofs.Fronts.{front_fits}
 use Rattle.text_rules.proofs.Rows.{both}
 

@@ -17,3 +17,4 @@ pub mod Texts
 pub mod FaultyLines
 pub mod Listings
 pub mod Theorems
+pub mod Said

@@ -13,16 +13,12 @@ use lib.ListN.{length, take, drop, replicate, length-append}
 use lib.Seq.{take-append_seam}
 use Rattle.table.specs.Refusal.{COUNT, WORD, LINES, first_bad}
 use Rattle.table.proofs.Decided.{apart, ends}
-use Rattle.job_rules.specs.declared.Written.{Written}
 use Rattle.table.specs.declared.Edition.{Edition}
-use Rattle.job_rules.specs.Write.{size_or_refusal, write_of}
-use Rattle.text_rules.specs.declared.Operands.{Operands}
-use Rattle.text_rules.specs.declared.Line.{Line}
-use Rattle.text_rules.specs.declared.ReadText.{ReadText}
+use Rattle.job_rules.specs.Write.{Written, size_or_refusal, write_of}
 use Rattle.text_rules.specs.Forms.{Operand, form_at, row_named}
 use Rattle.text_rules.specs.Number.{Notation, base_of, is_numeral, digits_in, number_of, says_below}
-use Rattle.text_rules.specs.Line.{name_in, operands_in, line_of}
-use Rattle.text_rules.specs.Text.{accepted_text, refused_text, read_from, most_lines, read_text_of}
+use Rattle.text_rules.specs.Line.{Line, Operands, name_in, operands_in, line_of}
+use Rattle.text_rules.specs.Text.{ReadText, accepted_text, refused_text, read_from, most_lines, read_text_of}
 use Rattle.text_rules.proofs.Fronts.{all_append}
 use Rattle.text_rules.proofs.Positional.{AllBelow}
 use Rattle.text_rules.proofs.Rows.{both, most, sound}

@@ -9,11 +9,9 @@ use borrow.Author.Tests.{ltb-true, ltb-false}
 use lib.Dec.{ltb}
 use lib.ListN.{length, take, drop, replicate}
 use lib.Seq.{take-append_seam}
-use Rattle.text_rules.specs.declared.Line.{Line}
-use Rattle.text_rules.specs.declared.ReadText.{ReadText}
 use Rattle.text_rules.specs.Forms.{word_form, form_at}
-use Rattle.text_rules.specs.Line.{NEWLINE, name_in, line_of}
-use Rattle.text_rules.specs.Text.{accepted_text, read_text_of}
+use Rattle.text_rules.specs.Line.{Line, NEWLINE, name_in, line_of}
+use Rattle.text_rules.specs.Text.{ReadText, accepted_text, read_text_of}
 use Rattle.text_rules.specs.Listing.{numbers_text, line_text, numbers_in, row_giving, line_of_word, listing_of}
 use Rattle.text_rules.proofs.Positional.{AllBelow}
 use Rattle.text_rules.proofs.Limits.{words_read}

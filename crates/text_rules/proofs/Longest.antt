@@ -9,9 +9,8 @@ use native.Mathlib.Nat.{le_refl}
 use borrow.Author.Tests.{ltb-true, ltb-false}
 use lib.Dec.{ltb}
 use lib.ListN.{length, length-append}
-use Rattle.text_rules.specs.declared.Line.{Line}
 use Rattle.text_rules.specs.Forms.{Operand, form_at}
-use Rattle.text_rules.specs.Line.{line_of}
+use Rattle.text_rules.specs.Line.{Line, line_of}
 use Rattle.text_rules.specs.Number.{Notation, decimal_in, digits_for}
 use Rattle.text_rules.specs.Number.Notation.{decimal, seven_hex}
 use Rattle.text_rules.specs.Listing.{numbers_text, line_text, numbers_in, row_giving, line_of_word, listing_of, longest_listing}

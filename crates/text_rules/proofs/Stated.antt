@@ -13,12 +13,10 @@ use lib.Seq.{drop-drop, drop_at, drop-append_seam}
 use Rattle.table.specs.Decided.{decided}
 use Rattle.table.specs.Refusal.{NAME, OPERANDS}
 use Rattle.table.proofs.Decided.{passes, ends, not_denied}
-use Rattle.text_rules.specs.declared.Operands.{Operands}
-use Rattle.text_rules.specs.declared.Line.{Line}
 use Rattle.text_rules.specs.Forms.{Operand, Form, every_form, form_at, same_bytes, row_named}
 use Rattle.text_rules.specs.Front.{front_while}
 use Rattle.text_rules.specs.Number.{Notation, base_of, digit_of, is_digit, digits_in, number_of, is_numeral, digits_for, says_below}
-use Rattle.text_rules.specs.Line.{SPACE, NEWLINE, in_name, name_in, operands_in, behind_name, accepted_line, refused_line, line_of}
+use Rattle.text_rules.specs.Line.{Line, Operands, SPACE, NEWLINE, in_name, name_in, operands_in, behind_name, accepted_line, refused_line, line_of}
 use Rattle.text_rules.specs.Number.Notation.{decimal, seven_hex}
 use Rattle.text_rules.specs.Listing.{put, numbers_text, line_text}
 use Rattle.text_rules.proofs.Written.{Below, word_of}

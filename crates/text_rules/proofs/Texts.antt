@@ -8,11 +8,9 @@ use native.Mathlib.Omega.{arith}
 use native.Mathlib.Nat.{sub-zero, suc-sub-suc, le_of_suc-le-suc}
 use lib.ListN.{length, drop}
 use lib.Seq.{append_snoc, drop-append_seam}
-use Rattle.text_rules.specs.declared.Line.{Line}
-use Rattle.text_rules.specs.declared.ReadText.{ReadText}
 use Rattle.text_rules.specs.Forms.{form_at}
-use Rattle.text_rules.specs.Line.{line_of}
-use Rattle.text_rules.specs.Text.{accepted_text, read_from, read_text_of}
+use Rattle.text_rules.specs.Line.{Line, line_of}
+use Rattle.text_rules.specs.Text.{ReadText, accepted_text, read_from, read_text_of}
 use Rattle.text_rules.specs.Listing.{line_text}
 use Rattle.text_rules.proofs.Written.{Below, word_of}
 use Rattle.text_rules.proofs.Stated.{stated_line, accepted_line_lem}

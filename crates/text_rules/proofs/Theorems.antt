@@ -16,17 +16,14 @@ use Rattle.table.specs.Operation.{operation_of}
 use Rattle.table.specs.Operation.Operation.{nop}
 use Rattle.table.specs.Refusal.{ROOM, first_bad}
 use Rattle.table.proofs.Decided.{none_refused, passes, apart, ends}
-use Rattle.job_rules.specs.declared.ReadJob.{ReadJob}
-use Rattle.job_rules.specs.declared.Written.{Written}
 use Rattle.table.specs.declared.Edition.{Edition}
 use Rattle.job_rules.specs.Layout.{bytes_to_read}
 use Rattle.job_rules.specs.Program.{lines_of}
-use Rattle.job_rules.specs.Write.{written_of, write_of}
+use Rattle.job_rules.specs.Write.{Written, written_of, write_of}
 use Rattle.job_rules.proofs.Theorems.{read_written}
 use Rattle.job_rules.proofs.TooLong as of_a_job
-use Rattle.text_rules.specs.declared.Line.{Line}
 use Rattle.text_rules.specs.Forms.{form_at}
-use Rattle.text_rules.specs.Line.{line_of}
+use Rattle.text_rules.specs.Line.{Line, line_of}
 use Rattle.text_rules.specs.Text.{accepted_text, read_text_of}
 use Rattle.text_rules.specs.Listing.{line_text, listing_of, longest_listing, listed_or_refusal, list_of, list_job_of}
 use Rattle.text_rules.proofs.Written.{Below}
@@ -35,6 +32,7 @@ use Rattle.text_rules.proofs.Limits.{words_read, few_words, words_below, words_c
 use Rattle.text_rules.proofs.Stated.{stated_line}
 use Rattle.text_rules.proofs.Longest.{longest_program}
 use Rattle.text_rules.proofs.Listings.{Program, reading_a_listing}
+use Rattle.job_rules.specs.Read.{ReadJob}
 
 -- ---- a line
 

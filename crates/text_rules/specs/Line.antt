@@ -3,8 +3,6 @@
 use Rattle.std.specs.Prelude.{ℕ, ◌+◌, ◌*◌, ◌^◌, Bool, true, false, cond, not, ◌&&◌, ◌||◌, List, [], ◌∷◌, eqb, leb, length, drop}
 use Rattle.table.specs.Decided.{decided}
 use Rattle.table.specs.Refusal.{NAME, OPERANDS}
-use Rattle.text_rules.specs.declared.Operands.{Operands}
-use Rattle.text_rules.specs.declared.Line.{Line}
 use Rattle.text_rules.specs.Forms.{Operand, Form, every_form, form_at, row_named}
 use Rattle.text_rules.specs.Front.{front_while}
 use Rattle.text_rules.specs.Number.{Notation, base_of, digits_in, number_of, says_below}
@@ -33,6 +31,12 @@ name_in l = front_while in_name l
 
 -- ---- what stands behind it
 
+-- whether it is as stated; then the line's word, and the size of the whole line, its newline included
+pub record Operands : Type 0 where
+  pub stated : Bool
+  pub word : ℕ
+  pub size : ℕ
+
 -- zeros where anything is not as stated
 abbrev pub not_stated : Operands
 not_stated = record { stated = false; word = 0; size = 0 }
@@ -54,7 +58,12 @@ behind_name f name l = operands_in f.notation f.operands f.word (length name) (d
 
 -- ---- the line
 
--- its word, and how many bytes it has; or its refusal, and zeros
+-- what a line says: 0, its word and its size; or the number that it is refused with, and zeros
+pub record Line : Type 0 where
+  pub refusal : ℕ
+  pub word : ℕ
+  pub size : ℕ
+
 abbrev pub accepted_line : ℕ → ℕ → Line
 accepted_line word size = record { refusal = 0; word = word; size = size }
 

@@ -5,11 +5,9 @@ use mathlib.Core.List.{List, [], ◌∷◌, ◌++◌, map, flat_map}
 use Rattle.buffer.specs.Front.{at_front}
 use Rattle.table.specs.Decided.{decided}
 use Rattle.table.specs.Refusal.{COUNT, WORD, ROOM, first_bad}
-use Rattle.job_rules.specs.declared.ReadJob.{ReadJob}
-use Rattle.job_rules.specs.declared.Written.{Written}
-use Rattle.job_rules.specs.Read.{read_of}
+use Rattle.job_rules.specs.Read.{ReadJob, read_of}
 use Rattle.job_rules.specs.Program.{lines_of}
-use Rattle.job_rules.specs.Write.{written_of}
+use Rattle.job_rules.specs.Write.{Written, written_of}
 use Rattle.text_rules.specs.Number.{Notation, digits_for}
 use Rattle.text_rules.specs.Forms.{Operand, Form, every_form, first_row, form_at}
 use Rattle.text_rules.specs.Line.{SPACE, NEWLINE}

@@ -3,15 +3,13 @@
 ghost use Rattle.std.specs.Prelude.{◌≡◌};
 ghost use Rattle.text_rules.specs.Number.{digit_of};
 
-// What a byte says as a digit: 0 to 15, the letters in upper case, and 16 where it is none.
+// What a byte says as a digit: 0 to 15, the letters in upper case, and 16 where it is none, so that one test against a base is enough.
 pub fn digit(b: u8) -> u64
     ensures { result ≡ digit_of b }
 {
-    if b >= b'0' && b <= b'9' {
-        return (b - b'0') as u64;
+    match b {
+        b'0'..=b'9' => (b - b'0') as u64,
+        b'A'..=b'F' => (b - b'A') as u64 + 10,
+        _ => 16,
     }
-    if b >= b'A' && b <= b'F' {
-        return (b - b'A') as u64 + 10;
-    }
-    16
 }

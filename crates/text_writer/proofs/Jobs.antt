@@ -7,12 +7,10 @@ use native.Mathlib.Omega.{arith}
 use borrow.Author.Tests.{eq-eqb, ne_eqb}
 use lib.ListN.{length, drop, replicate, length-append}
 use Rattle.table.proofs.Decided.{stops, passes, ends, denied, not_denied}
-use Rattle.job_rules.specs.declared.ReadJob.{ReadJob}
-use Rattle.job_rules.specs.declared.Written.{Written}
 use Rattle.job_rules.specs.Layout.{instructions_at, edition_in, two_at, words_in}
-use Rattle.job_rules.specs.Read.{filled, read_of}
+use Rattle.job_rules.specs.Read.{ReadJob, filled, read_of}
 use Rattle.job_rules.specs.Program.{lines_of}
-use Rattle.job_rules.specs.Write.{written_of}
+use Rattle.job_rules.specs.Write.{Written, written_of}
 use Rattle.job_rules.proofs.Refusals.{accepted, read}
 use Rattle.text_rules.specs.Listing.{list_of, list_job_of}
 
@@ -21,9 +19,9 @@ filled_long words = omega (arith, length-append words (replicate (64 - length wo
 
 module _ (file : List ℕ) {r : ReadJob} (is : r ≡ read_of file) where
   -- a file that is refused
-  pub file_refused : (out : List ℕ) {answer : Written} → (r.refusal ≡ 0 → ⊥) → answer ≡ written_of r.refusal r.place 0 → (answer, out) ≡ list_job_of file out
+  pub file_refused : (out : List ℕ) → (r.refusal ≡ 0 → ⊥) → (written_of r.refusal r.place 0, out) ≡ list_job_of file out
   unfolding list_job_of
-  file_refused out isnt e = rw (e, ← is) (stops _ _ (denied (ne_eqb r.refusal 0 isnt)))
+  file_refused out isnt = rw (← is) (stops _ _ (denied (ne_eqb r.refusal 0 isnt)))
 
   module _ (good : r.refusal ≡ 0) where
     -- its lines stand within the 64 words

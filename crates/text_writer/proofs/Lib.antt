@@ -3,7 +3,6 @@ pub mod Digits
 pub mod Names
 pub mod Pieces
 pub mod Operands
-pub mod Leaves
 pub mod Lines
 pub mod Listings
 pub mod Jobs

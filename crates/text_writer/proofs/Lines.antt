@@ -5,12 +5,12 @@ use mathlib.Core.Path.{◌≡◌, refl, sym, ap, ◌∙◌}
 use mathlib.Core.Bool.{Bool, true, false, cond}
 use mathlib.Core.List.{List, [], ◌∷◌, ◌++◌, flat_map}
 use native.Mathlib.Omega.{arith}
-use native.Mathlib.Nat.{le_refl}
 use borrow.Author.Tests.{eqb-true, eqb-false}
-use borrow.Rule.Slice.PartMut.{mid_of, put_mid, mid_len}
-use lib.ListN.{length, take, set, replicate, length-append}
-use lib.Seq.{sets, sets-eq, take_at}
-use Rattle.row_rules.specs.Text.{digit, hex_digits}
+use borrow.Rule.Slice.PartMut.{mid_of, put_mid}
+use lib.ListN.{length, set, take}
+use Rattle.buffer.specs.Front.{at_front}
+use Rattle.buffer.proofs.Parts.{all_fit}
+use Rattle.row_rules.specs.Text.{hex_digits}
 use Rattle.text_rules.specs.Forms.{Operand, form_at, word_form}
 use Rattle.text_rules.specs.Line.{NEWLINE}
 use Rattle.text_rules.specs.Listing.{numbers_text, line_text, numbers_in, gives, row_giving, line_of_word}
@@ -22,8 +22,6 @@ use Rattle.text_rules.proofs.Giving.{row_by_bits, numbers_below, row_giving_lem}
 use Rattle.text_rules.proofs.Unnamed.{unnamed_exactly}
 use Rattle.text_rules.proofs.Rows.{both, every, agree, has_limit, has_limit_lem, sound}
 use Rattle.text_rules.proofs.Stated.{line_size}
-use Rattle.text_writer.specs.declared.numbers.Numbers.{Numbers}
-use Rattle.text_writer.specs.Numbers.{numbers_of}
 use Rattle.text_writer.specs.Put.{Put, Small}
 use Rattle.text_writer.proofs.Pieces.{put_long, then_put, then_byte}
 
@@ -43,7 +41,7 @@ small_below (o ∷ os) (v ∷ vs) e b (suc i) = small_below os vs (both (has_lim
 in_decimal : (row : ℕ) → row < 25 → (form_at row).notation ≡ decimal
 in_decimal = agree 25 (λ (row : ℕ). (form_at row).notation) (λ (_ : ℕ). decimal) refl
 
-numbers_small : (row : ℕ) → row < 25 → (w : ℕ) → Small (numbers_in w (form_at row))
+pub numbers_small : (row : ℕ) → row < 25 → (w : ℕ) → Small (numbers_in w (form_at row))
 numbers_small row h w =
     let all : row < 26 = omega arith in
     let limits : every (has_limit decimal) (form_at row).operands ≡ true
@@ -61,9 +59,6 @@ module _ (row : ℕ) (h : row < 25) (numbers old : List ℕ) (room : length (lin
     pub behind_name_lem : at + length (numbers_text decimal numbers) + 1 ≤ length named
     behind_name_lem = omega (arith, line_room, name.sized, put_long name (omega (arith, line_room)))
 
-    pub numbers_fit : length (numbers_text decimal numbers) ≤ length (mid_of at (length named - at) named)
-    numbers_fit = omega (arith, behind_name_lem, mid_len at (length named) named (le_refl (length named)))
-
     module _ {part : List ℕ} {size : ℕ} (put : Put (numbers_text decimal numbers) size (mid_of at (length named - at) named) part) where
       joined : Put ((form_at row).name ++ numbers_text decimal numbers) (at + size) old (put_mid at (length named - at) named part)
       joined = then_put name (numbers_text decimal numbers) part size put
@@ -71,15 +66,6 @@ module _ (row : ℕ) (h : row < 25) (numbers old : List ℕ) (room : length (lin
       -- the numbers end before the buffer does
       pub end_within : at + size < length old
       end_within = omega (arith, line_room, name.sized, put.sized)
-
-      -- there is a place for the newline
-      pub newline_fits : at + size < length (put_mid at (length named - at) named part)
-      newline_fits =
-          omega (
-            arith,
-            end_within,
-            put_long joined (omega (arith, line_room, length-append (form_at row).name (numbers_text decimal numbers))),
-          )
 
       -- and with it the line stands
       pub line_put : Put (line_text (form_at row) numbers) (at + size + 1) old (set (put_mid at (length named - at) named part) (at + size) NEWLINE)
@@ -98,34 +84,19 @@ word_line w h = let whole : w / 2 ^ 0 % 2 ^ 25 ≡ w = omega arith in rw whole
 pub word_line_long : (w : ℕ) → w < 2 ^ 25 → length (line_text word_form (numbers_in w word_form)) ≡ 14
 word_line_long w h = ap length (word_line w h)
 
--- and stands once they are stored
-pub word_put : (w : ℕ) → w < 2 ^ 25 → (old : List ℕ) → 14 ≤ length old → {d₆ d₅ d₄ d₃ d₂ d₁ d₀ : ℕ}
-    → d₆ ≡ digit (w / 0x1000000 % 16) → d₅ ≡ digit (w / 0x100000 % 16) → d₄ ≡ digit (w / 0x10000 % 16) → d₃ ≡ digit (w / 0x1000 % 16)
-    → d₂ ≡ digit (w / 0x100 % 16) → d₁ ≡ digit (w / 0x10 % 16) → d₀ ≡ digit (w % 16)
-    → Put (line_text word_form (numbers_in w word_form)) 14 old (sets old 0 (front ++ d₆ ∷ d₅ ∷ d₄ ∷ d₃ ∷ d₂ ∷ d₁ ∷ d₀ ∷ NEWLINE ∷ []))
-word_put w h old room e₆ e₅ e₄ e₃ e₂ e₁ e₀ =
-    let last : w / 16 ^ 0 % 16 ≡ w % 16 = omega arith in
-    rw (word_line w h, e₆, e₅, e₄, e₃, e₂, e₁, e₀, ← last) (record { sized = refl; stands = sets-eq (front ++ hex_digits 7 w ++ NEWLINE ∷ []) old 0 room })
+-- the line of the word 0
+abbrev zeros : List ℕ
+zeros = 46 ∷ 119 ∷ 111 ∷ 114 ∷ 100 ∷ 32 ∷ 48 ∷ 48 ∷ 48 ∷ 48 ∷ 48 ∷ 48 ∷ 48 ∷ 10 ∷ []
 
--- ---- the numbers of an instruction's word
-
-module _ (w row : ℕ) {n : Numbers} (found : n ≡ numbers_of row w) where
-  -- the numbers of a row stand in front of four
-  taken : take n.count n.values ≡ numbers_in w (form_at row)
-  unfolding numbers_of
-  taken = rw found (take_at (numbers_in w (form_at row)) _ _ refl)
-
-  pub taken_long : n.count ≡ length (take n.count n.values)
-  unfolding numbers_of
-  taken_long = ap (λ (m : Numbers). m.count) found ∙ sym (ap length taken)
-
-  pub few_taken : n.count ≤ length n.values
-  unfolding numbers_of
-  few_taken = let numbers = numbers_in w (form_at row) in rw found (omega (arith, length-append numbers (replicate (4 - length numbers) 0)))
-
-  -- and are small
-  pub small_taken : row < 25 → Small (take n.count n.values)
-  small_taken small = rw taken (numbers_small row small w)
+-- it stands once the word's digits have taken the place of its own
+pub word_put : (w : ℕ) → w < 2 ^ 25 → (old : List ℕ) → 14 ≤ length old → {digits : List ℕ} → digits ≡ hex_digits 7 w
+    → {new : List ℕ} → new ≡ at_front (take (length old) (put_mid 6 7 zeros digits)) old → Put (line_text word_form (numbers_in w word_form)) 14 old new
+word_put w h old room said put = record {
+  sized = sym (word_line_long w h);
+  stands =
+      put ∙ ap (λ (d : List ℕ). at_front (take (length old) (put_mid 6 7 zeros d)) old) said ∙ all_fit (put_mid 6 7 zeros (hex_digits 7 w)) old room
+      ∙ ap (λ (l : List ℕ). at_front l old) (sym (word_line w h));
+}
 
 -- ---- which of them
 
@@ -143,8 +114,6 @@ module _ (w : ℕ) (h : w < 2 ^ 25) {t : Bool} (test : t ≡ unnamed w) where
       by true e = e
       by false e = absurd (eqb-false (row_giving w) 25 (unnamed_exactly w h ∙ sym test ∙ off) e)
 
-  -- with its numbers
-  pub named_line : t ≡ false → (row : ℕ) → row ≡ row_by_bits w → {n : Numbers} → n ≡ numbers_of row w → line_of_word w ≡ line_text (form_at row) (take n.count n.values)
+  pub named_line : t ≡ false → {row : ℕ} → row ≡ row_by_bits w → line_of_word w ≡ line_text (form_at row) (numbers_in w (form_at row))
   unfolding line_of_word
-  named_line off row by_bits found =
-      ap (λ (r : ℕ). line_text (form_at r) (numbers_in w (form_at r))) (named_row off ∙ sym by_bits) ∙ ap (line_text (form_at row)) (sym (taken w row found))
+  named_line off by_bits = ap (λ (r : ℕ). line_text (form_at r) (numbers_in w (form_at r))) (named_row off ∙ sym by_bits)

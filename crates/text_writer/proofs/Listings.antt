@@ -5,14 +5,13 @@ use mathlib.Core.Path.{◌≡◌, refl, sym, ap, ◌∙◌}
 use mathlib.Core.List.{List}
 use native.Mathlib.Omega.{arith}
 use borrow.Author.Tests.{eq-eqb, ne_eqb}
-use lib.ListN.{length, get_or, take, drop, length-append}
+use lib.ListN.{length, get_or, take}
 use lib.Seq.{take_at}
 use Rattle.buffer.specs.Front.{at_front}
 use Rattle.buffer.proofs.Parts.{all_fit}
 use Rattle.table.specs.Refusal.{COUNT, WORD, ROOM, first_bad}
 use Rattle.table.proofs.Decided.{deciding}
-use Rattle.job_rules.specs.declared.Written.{Written}
-use Rattle.job_rules.specs.Write.{written_of}
+use Rattle.job_rules.specs.Write.{Written, written_of}
 use Rattle.text_rules.specs.Listing.{line_of_word, listing_of, longest_listing, listed_or_refusal, list_of}
 use Rattle.text_rules.proofs.Positional.{each_below}
 use Rattle.text_rules.proofs.Limits.{good_is_below}
@@ -53,34 +52,33 @@ module _ (words out : List ℕ) {answer : Written} (asked : answer ≡ listed_or
 -- ---- the tests as they came out
 
 module _ (words out : List ℕ) where
-  refuses : {answer : Written} (number place : ℕ) → (number ≡ 0 → ⊥) → answer ≡ written_of number place 0 → written_of number place 0 ≡ listed_or_refusal words (length out)
-      → (answer, out) ≡ list_of words out
-  refuses number place some e decides = not_listed words out (e ∙ decides) (λ z. some (sym (ap (λ (a : Written). a.refusal) e) ∙ z))
+  refuses : (number place : ℕ) → (number ≡ 0 → ⊥) → written_of number place 0 ≡ listed_or_refusal words (length out) → (written_of number place 0, out) ≡ list_of words out
+  refuses number place some decides = not_listed words out decides some
 
   -- more than 64 words
-  pub too_many : {answer : Written} → 64 < length words → answer ≡ written_of COUNT 0 0 → (answer, out) ≡ list_of words out
+  pub too_many : 64 < length words → (written_of COUNT 0 0, out) ≡ list_of words out
   unfolding listed_or_refusal
-  too_many many e = refuses COUNT 0 (λ z. omega arith) e (search deciding depth 12)
+  too_many many = refuses COUNT 0 (λ z. omega arith) (search deciding depth 12)
 
   module _ (few : length words ≤ 64) {bad : ℕ} (first : bad ≡ first_bad words) where
     -- a bad word
-    pub bad_word : {answer : Written} → bad < length words → answer ≡ written_of WORD bad 0 → (answer, out) ≡ list_of words out
+    pub bad_word : bad < length words → (written_of WORD bad 0, out) ≡ list_of words out
     unfolding listed_or_refusal
-    bad_word less e =
+    bad_word less =
         let there : first_bad words < length words = omega arith in
-        refuses WORD bad (λ z. omega arith) e (rw first (search deciding depth 12))
+        refuses WORD bad (λ z. omega arith) (rw first (search deciding depth 12))
 
     module _ (all : length words ≤ bad) {old text : List ℕ} {size : ℕ} (whole : Put (listing_of words) size old text) where
       good : length words ≤ first_bad words
       good = omega arith
 
       -- the listing does not fit
-      pub no_room : {answer : Written} → length out < size → answer ≡ written_of ROOM 0 0 → (answer, out) ≡ list_of words out
+      pub no_room : length out < size → (written_of ROOM 0 0, out) ≡ list_of words out
       unfolding listed_or_refusal
-      no_room less e =
+      no_room less =
           let h = good in
           let short : length out < length (listing_of words) = omega (arith, whole.sized) in
-          refuses ROOM 0 (λ z. omega arith) e (search deciding depth 12)
+          refuses ROOM 0 (λ z. omega arith) (search deciding depth 12)
 
       -- it fits, and its bytes are copied from the front of the text
       pub copied : {new : List ℕ} → size ≤ length out → new ≡ at_front (take (length out) (take size text)) out → (written_of 0 0 size, new) ≡ list_of words out
@@ -91,7 +89,3 @@ module _ (words out : List ℕ) where
           let taken : take size text ≡ listing_of words = ap (take size) whole.stands ∙ take_at (listing_of words) _ size (sym whole.sized) in
           listed words out (rw whole.sized (search deciding depth 12)) refl
           (e ∙ ap (λ (l : List ℕ). at_front (take (length out) l) out) taken ∙ all_fit (listing_of words) out room)
-
--- the bytes of a text that was put are within the buffer
-pub put_within : {p old text : List ℕ} {size : ℕ} → Put p size old text → size ≤ length text
-put_within {p} {old} put = omega (arith, put.sized, ap length put.stands, length-append p (drop (length p) old))

@@ -13,7 +13,8 @@ use Rattle.text_rules.specs.Forms.{form_at}
 use Rattle.text_rules.proofs.Positional.{AllBelow, each_below, every_below, snoc}
 use Rattle.text_rules.proofs.Rows.{every, agree}
 use Rattle.text_table.specs.Table.{key_of, form_table}
-use Rattle.text_table.proofs.Cells.{key_there}
+use Rattle.text_table.specs.declared.rows.Row.{Row}
+use Rattle.text_table.proofs.Cells.{row_there}
 use Rattle.text_writer.specs.Name.{size_by_key}
 use Rattle.text_writer.proofs.Backwards.{one_back}
 
@@ -31,14 +32,17 @@ pub name_bytes : (row : ℕ) → row < 26 → AllBelow 256 (form_at row).name
 name_bytes row h = every_below 256 (form_at row).name (bytes_there row h)
 
 -- in the table as the code has it
-module _ {table : List ℕ} (e : table ≡ form_table) (row : ℕ) (h : row < 26) where
+module _ {rows : List Row} (e : rows ≡ form_table) (row : ℕ) (h : row < 26) (d : Row) where
+  key_there : (get_or rows row d).key ≡ key_of (form_at row).name
+  key_there = ap (λ (r : Row). r.key) (row_there e row h d)
+
   -- the size that is found by the key there
-  pub size_there : {size : ℕ} → size ≡ size_by_key (get_or table (11 * row) 0) → size ≡ length (form_at row).name
-  size_there q = q ∙ ap size_by_key (key_there e row h) ∙ sized row h
+  pub size_there : {size : ℕ} → size ≡ size_by_key (get_or rows row d).key → size ≡ length (form_at row).name
+  size_there q = q ∙ ap size_by_key key_there ∙ sized row h
 
   -- all of the name is left, and its key is there
-  pub all_left : (size : ℕ) → size ≡ length (form_at row).name → get_or table (11 * row) 0 ≡ key_of (take size (form_at row).name)
-  all_left size q = key_there e row h ∙ ap key_of (sym (take_all size (form_at row).name (omega arith)))
+  pub all_left : (size : ℕ) → size ≡ length (form_at row).name → (get_or rows row d).key ≡ key_of (take size (form_at row).name)
+  all_left size q = key_there ∙ ap key_of (sym (take_all size (form_at row).name (omega arith)))
 
 -- ---- from the last byte back
 

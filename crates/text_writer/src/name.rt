@@ -2,11 +2,10 @@
 
 ghost use Rattle.std.specs.Prelude.{◌≤◌, ◌<◌, ◌≡◌, length};
 ghost use Rattle.text_rules.specs.Forms.{form_at};
-ghost use Rattle.text_table.specs.Table.{form_table};
 ghost use Rattle.text_writer.specs.Name.{size_by_key};
 ghost use Rattle.text_writer.specs.Put.{Put};
 
-use text_table::WIDTH;
+use text_table::Forms;
 
 // How many bytes a name has, by its key, in which they stand behind a 1: two to six.
 fn size_by_key(key: u64) -> usize
@@ -27,16 +26,14 @@ fn size_by_key(key: u64) -> usize
     6
 }
 
-// The name of the form in that row, from its last byte back, and how many bytes it has.
-pub(crate) fn put_name(out: &mut [u8], table: &[u64], row: usize) -> usize
-    requires { (table.now ≡ form_table) × (row < 26) × (length (form_at row).name ≤ length out.old) }
+// The name of the form in that row, and how many bytes it has. The key gives the last byte first, so they are put from the last one back.
+pub(crate) fn put_name(out: &mut [u8], forms: &Forms, row: usize) -> usize
+    requires { (row < 26) × (length (form_at row).name ≤ length out.old) }
     ensures { Put (form_at row).name result out.old out.new }
 {
-    let mut rest = table[WIDTH * row];
+    let mut rest = forms.rows[row].key;
     let size = size_by_key(rest);
-    let mut i = size;
-    while i > 0 {
-        i -= 1;
+    for i in (0..size).rev() {
         out[i] = (rest % 256) as u8;
         rest /= 256;
     }

@@ -7,7 +7,7 @@ use Rattle.row_rules.specs.declared.Row.{Row}
 use Rattle.row_rules.specs.Text.{row_size, row_at}
 use Rattle.row_rules.proofs.Theorems.{no_room, row_fits}
 use Rattle.unit_rules.specs.declared.Unit.{Unit}
-use Rattle.unit_rules.specs.declared.Cycled.{Cycled}
+use Rattle.unit_rules.specs.Answers.{Cycled}
 use Rattle.unit_rules.specs.declared.InFlight.{InFlight}
 use Rattle.trace_rules.proofs.Going.{Going, goes}
 use Rattle.trace_rules.specs.RowOfCycle.{shown_by, shown_of}

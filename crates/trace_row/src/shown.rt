@@ -2,14 +2,13 @@
 
 ghost use Rattle.std.specs.Prelude.{◌≡◌, false, ◌||◌};
 ghost use Rattle.register.specs.Layout.{zero_register};
-ghost use Rattle.unit_rules.specs.Cycle.{is_target};
 ghost use Rattle.unit_rules.specs.Stages.{decoded_with};
-ghost use Rattle.trace_rules.specs.RowOfCycle.{stage_of, writes_to, flag_of, flags_for, flags_of, change_to, change_of, shown_by};
+ghost use Rattle.trace_rules.specs.RowOfCycle.{stage_of, writes_to, flags_for, flags_of, change_to, change_of, shown_by};
 
 use alu_rules::Outcome;
 use register::Register;
 use row_rules::{Change, Flags, Row, Stage};
-use table::{Pointer, Target, operands};
+use table::{Pointer, operands};
 use unit_record::latches::{in_decoded, in_executed};
 use unit_rules::{ExWb, IfId, InFlight, Instruction};
 use unit_stages::forward::{takes_first, takes_second, takes_third};
@@ -17,43 +16,19 @@ use unit_stages::forward::{takes_first, takes_second, takes_third};
 fn stage(latch: IfId) -> Stage
     ensures { result ≡ stage_of latch }
 {
-    match latch {
-        IfId::Empty => Stage::Empty,
-        IfId::Holds(i) => Stage::Holds(i.word),
-    }
-}
-
-fn is_target(target: Target, p: Pointer) -> bool
-    ensures { result ≡ is_target target p }
-{
-    match target {
-        Target::None => false,
-        Target::To(d) => d.0 == p.0,
-    }
+    latch.map(|i| i.word)
 }
 
 fn writes_to(latch: ExWb, p: Pointer) -> bool
     ensures { result ≡ writes_to latch p }
 {
     match latch {
-        ExWb::Empty => false,
-        ExWb::Holds(i, _) => {
-            let target = i.target;
-            is_target(target, p)
-        }
+        Some((i, _)) => i.target == Some(p),
+        None => false,
     }
 }
 
-fn flag(reads: bool, wb: ExWb, p: Pointer) -> bool
-    ensures { result ≡ flag_of reads wb p }
-{
-    if reads {
-        return writes_to(wb, p);
-    }
-    false
-}
-
-// Whether WB writes a register that a field of the instruction names, read or not.
+// Whether WB writes a register that a field of the instruction names, read or not: as in `forward` of crate `unit_stages`, of a latch in place of what it writes.
 fn names_written(wb: ExWb, i: Instruction) -> bool
     ensures { result ≡ (writes_to wb i.first || writes_to wb i.second || writes_to wb i.third) }
 {
@@ -66,9 +41,9 @@ fn flags_by_table(wb: ExWb, i: Instruction) -> Flags
 {
     let reads = operands::reads(i.word);
     Flags {
-        rs1: flag(takes_first(reads), wb, i.first),
-        rs2: flag(takes_second(reads), wb, i.second),
-        rs3: flag(takes_third(reads), wb, i.third),
+        rs1: takes_first(reads) && writes_to(wb, i.first),
+        rs2: takes_second(reads) && writes_to(wb, i.second),
+        rs3: takes_third(reads) && writes_to(wb, i.third),
     }
 }
 
@@ -96,47 +71,37 @@ fn flags(wb: ExWb, ex: IfId) -> Flags
     ensures { result ≡ flags_of wb (decoded_with ex (record { first = zero_register; second = zero_register; third = zero_register })) }
 {
     match ex {
-        IfId::Empty => no_flags(),
-        IfId::Holds(i) => flags_for(wb, i),
+        None => no_flags(),
+        Some(i) => flags_for(wb, i),
     }
 }
 
 // The outcome is put together field by field: handed on whole, it is moved through memory in other pieces than those in which it is read, and each row waits
 // for that.
-fn change_to(target: Target, outcome: Outcome) -> Change
+fn change_to(target: Option<Pointer>, outcome: Outcome) -> Change
     ensures { result ≡ change_to target outcome }
 {
-    match target {
-        Target::None => Change::Nothing,
-        Target::To(p) => {
-            let v = outcome.value;
-            let value = Register {
-                w0: v.w0,
-                w1: v.w1,
-                w2: v.w2,
-                w3: v.w3,
-            };
-            Change::To(
-                p,
-                Outcome {
-                    value,
-                    mark: outcome.mark,
-                },
-            )
-        }
-    }
+    let v = outcome.value;
+    let value = Register {
+        w0: v.w0,
+        w1: v.w1,
+        w2: v.w2,
+        w3: v.w3,
+    };
+    Some((
+        target?,
+        Outcome {
+            value,
+            mark: outcome.mark,
+        },
+    ))
 }
 
 fn change(latch: ExWb) -> Change
     ensures { result ≡ change_of latch }
 {
-    match latch {
-        ExWb::Empty => Change::Nothing,
-        ExWb::Holds(i, o) => {
-            let target = i.target;
-            change_to(target, o)
-        }
-    }
+    let (i, o) = latch?;
+    change_to(i.target, o)
 }
 
 // The row of a cycle, from its number, what IF delivers in it and what the latches hold at its start, ID/EX without its values: a row shows nothing of them, and
@@ -165,8 +130,11 @@ pub fn row_of_stages(
 pub fn row_of_cycle(cycle: u32, flight: InFlight, delivered: IfId) -> Row
     ensures { result ≡ shown_by cycle delivered flight.fetched flight.decoded flight.executed }
 {
-    let fetched = flight.fetched;
-    let decoded = flight.decoded;
-    let executed = flight.executed;
-    row_of_stages(cycle, delivered, fetched, in_decoded(decoded), executed)
+    row_of_stages(
+        cycle,
+        delivered,
+        flight.fetched,
+        in_decoded(flight.decoded),
+        flight.executed,
+    )
 }

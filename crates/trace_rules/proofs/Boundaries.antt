@@ -11,10 +11,9 @@ use Rattle.table.specs.declared.Edition.TheVariants.{One, Two}
 use Rattle.table.specs.Operation.{operation_of, target_of}
 use Rattle.alu_rules.specs.Across.{unmarked}
 use Rattle.row_rules.specs.declared.Flags.{Flags}
-use Rattle.row_rules.specs.declared.Change.{Change}
-use Rattle.row_rules.specs.declared.Change.TheVariants.{Nothing, To}
-use Rattle.unit_rules.specs.declared.ExWb.{ExWb}
-use Rattle.unit_rules.specs.declared.ExWb.TheVariants.{Holds}
+use Rattle.row_rules.specs.Shown.{Change}
+use Rattle.std.specs.declared.option.Option.TheVariants.{None, Some}
+use Rattle.unit_rules.specs.Latches.{ExWb}
 use Rattle.unit_rules.specs.Cycle.{instruction_of}
 use Rattle.trace_rules.specs.RowOfCycle.{flags_for, change_of}
 
@@ -32,7 +31,7 @@ third = record { rs1 = false; rs2 = false; rs3 = true }
 
 -- WB holds an li of this register
 abbrev writing : ℕ → ExWb
-writing rd = Holds (instruction_of One rd) (unmarked zero_register)
+writing rd = Some ((instruction_of One rd), (unmarked zero_register))
 
 -- a word's flags where WB writes register 1, 2, 3 and 4; of the words below, bits 4..0 name 1, bits 9..5 name 2 and bits 14..10 name 3,
 -- and of the multiply and the li bits 19..15 name 4
@@ -59,7 +58,7 @@ of_li = refl
 
 -- WB holds this word, which gave zero
 abbrev in_wb : Edition → ℕ → ExWb
-in_wb edition w = Holds (instruction_of edition w) (unmarked zero_register)
+in_wb edition w = Some ((instruction_of edition w), (unmarked zero_register))
 
 abbrev both : Flags
 both = record { rs1 = true; rs2 = true; rs3 = false }
@@ -94,9 +93,9 @@ abbrev changes_in : Edition → List Change
 changes_in edition = map (λ (w : ℕ). change_of (in_wb edition w)) (0 ∷ 0x1000000 ∷ 0x1810000 ∷ 1 ∷ 0x1800000 ∷ [])
 
 abbrev zero_to : ℕ → Change
-zero_to k = To (record { 0 = k }) (unmarked zero_register)
+zero_to k = Some ((record { 0 = k }), (unmarked zero_register))
 
 pub shown_in_each_edition : (changes_in One ∷ changes_in Two ∷ [])
-    ≡ ((zero_to 0 ∷ zero_to 0 ∷ zero_to 0 ∷ zero_to 1 ∷ Nothing ∷ []) ∷ (Nothing ∷ Nothing ∷ Nothing ∷ zero_to 1 ∷ Nothing ∷ []) ∷ [])
+    ≡ ((zero_to 0 ∷ zero_to 0 ∷ zero_to 0 ∷ zero_to 1 ∷ None ∷ []) ∷ (None ∷ None ∷ None ∷ zero_to 1 ∷ None ∷ []) ∷ [])
 unfolding target_of
 shown_in_each_edition = refl

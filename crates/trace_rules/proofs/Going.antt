@@ -3,7 +3,7 @@
 use Rattle.unit_rules.proofs.Shared.{ℕ, ◌≡◌, refl, sym, ap, ◌∙◌, Bool, true, false, arith, STATE, DRAINED, cycle_of, drained_of, well_made_of, cycled_of}
 use Rattle.table.proofs.Decided.{stops, passes, ends, denied, not_denied}
 use Rattle.unit_rules.specs.declared.Unit.{Unit}
-use Rattle.unit_rules.specs.declared.Cycled.{Cycled}
+use Rattle.unit_rules.specs.Answers.{Cycled}
 
 -- a unit that makes a cycle when it is asked
 pub record Going (u : Unit) : Type 0 where

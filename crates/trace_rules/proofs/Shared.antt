@@ -15,4 +15,4 @@ pub use Rattle.trace_rules.specs.RowOfCycle.{shown_of}
 unfoldable pub use Rattle.trace_rules.specs.RowOfCycle.{shown_by}
 pub use Rattle.trace_rules.specs.JobText.{most_cycles, cycles_left, write_text_of, text_for, largest_text, whole_text_of}
 unfoldable pub use Rattle.trace_rules.specs.JobText.{rows_of, end_text, refused_text, trace_text, job_text, put_of}
-pub use Rattle.trace_rules.specs.declared.TextAnswer.{TextAnswer}
+pub use Rattle.trace_rules.specs.JobText.{TextAnswer}

@@ -5,7 +5,7 @@ use Rattle.trace_rules.proofs.Shared.{mid_of, put_mid, at_front, then_front, dig
 use Rattle.trace_rules.proofs.Shared.{well_made_says, last_small, ran, shown_of, rows_of, end_text, refused_text, most_cycles, cycles_left, trace_text}
 use Rattle.unit_rules.proofs.Shared.{ℕ, zero, suc, ◌+◌, ◌-◌, ◌*◌, ◌%◌, ◌≤◌, ◌<◌, ◌≡◌, refl, ap, ◌∙◌, Bool, true, false, List, [], ◌∷◌, ◌++◌, arith}
 use Rattle.unit_rules.proofs.Shared.{lt-ltb, le-ltb, ltb-true, ltb-false, ltb, length, length-append, cycles_of, last_of, well_made_of}
-use Rattle.unit_rules.specs.declared.Ran.{Ran}
+use Rattle.unit_rules.specs.Answers.{Ran}
 
 -- ---- a trace
 

@@ -1,32 +1,27 @@
 -- For the reader of specs/: what a row says is what happened. Carried by where the latches are (`Positions` of `unit_rules`) and by the cases of a latch.
 -- Assumes nothing.
 use Rattle.unit_rules.proofs.Shared.{ℕ, zero, suc, ◌+◌, ◌-◌, ◌<◌, ◌≤◌, ◌≡◌, refl, sym, ap, subst, ◌∙◌, ◌⊎◌, ⊎_elim, Bool, true, false, cond, ◌&&◌, ◌||◌}
-use Rattle.unit_rules.proofs.Shared.{and-false, List, arith, leb-false, lt-ltb, lt-leb, le-leb, ltb-true, ltb-false, leb, ltb, length, take, STATE, DRAINED, ROOM, Register, Pointer, Target, None, is_li}
+use Rattle.unit_rules.proofs.Shared.{and-false, List, arith, leb-false, lt-ltb, lt-leb, le-leb, ltb-true, ltb-false, leb, ltb, length, take, STATE, DRAINED, ROOM, Register, Pointer, Option, None, is_li}
 use Rattle.unit_rules.proofs.Shared.{rd_of, first_of, rs2_of, rs3_of, Operation, operation_of, reads_of, takes_first, takes_second, takes_third, is_nop, is_wired, target_of, stored, Edition, Two}
 use Rattle.unit_rules.proofs.Shared.{plain, lines_of, instruction_of, instruction_at, fetched_in, is_target, newest, read_by, newest_operands, after_wb, after_ex, cycle_of, in_decoded}
 use Rattle.unit_rules.proofs.Shared.{false≢true, map, get_or, row_of, in_executed, decoded_with, last_of, drained_of, well_made_of, go_of, cycled_of, Whole, after_calls, unit_after, made_unless, cycles_in}
-use Rattle.table.specs.declared.Target.TheVariants.{To as ToRegister}
+use Rattle.std.specs.declared.option.Option.TheVariants.{None, Some}
 use Rattle.table.proofs.Decided.{stops, passes, ends, apart, each, not_denied, the_second}
 use borrow.Author.Tests.{eq-eqb}
 use Rattle.row_rules.specs.declared.Flags.{Flags}
 use Rattle.alu_rules.specs.declared.Outcome.{Outcome}
 use Rattle.job_rules.specs.declared.Program.{Program}
 use Rattle.plain_rules.specs.Answer.{execute_all_of}
-use Rattle.row_rules.specs.declared.Stage.{Stage}
-use Rattle.row_rules.specs.declared.Stage.TheVariants as In
-use Rattle.row_rules.specs.declared.Change.{Change}
-use Rattle.row_rules.specs.declared.Change.TheVariants.{Nothing}
+use Rattle.row_rules.specs.Shown.{Stage}
+use Rattle.row_rules.specs.Shown.{Change}
 use Rattle.row_rules.specs.Text.{row_size}
 use Rattle.unit_rules.specs.declared.Instruction.{Instruction}
-use Rattle.unit_rules.specs.declared.Operands.{Operands}
-use Rattle.unit_rules.specs.declared.IfId.{IfId}
-use Rattle.unit_rules.specs.declared.IfId.TheVariants as IF/ID
-use Rattle.unit_rules.specs.declared.IdEx.{IdEx}
-use Rattle.unit_rules.specs.declared.IdEx.TheVariants as ID/EX
-use Rattle.unit_rules.specs.declared.ExWb.{ExWb}
-use Rattle.unit_rules.specs.declared.ExWb.TheVariants as EX/WB
+use Rattle.unit_rules.specs.Latches.{Operands}
+use Rattle.unit_rules.specs.Latches.{IfId}
+use Rattle.unit_rules.specs.Latches.{IdEx}
+use Rattle.unit_rules.specs.Latches.{ExWb}
 use Rattle.unit_rules.specs.declared.Unit.{Unit}
-use Rattle.unit_rules.specs.declared.Cycled.{Cycled}
+use Rattle.unit_rules.specs.Answers.{Cycled}
 use Rattle.unit_rules.specs.Cycle.{worked, mark_in}
 use Rattle.unit_rules.specs.Sequence.Call.{row}
 use Rattle.unit_rules.proofs.Positions.{placed_cycle, drained_is, not_drained_gone}
@@ -67,8 +62,8 @@ row_stages u made =
 pub no_value_shown : (cycle : ℕ) (delivered fetched : IfId) (decoded : IdEx) (executed : ExWb) (o : Operands)
     → shown_by cycle delivered fetched (decoded_with (in_decoded decoded) o) executed ≡ shown_by cycle delivered fetched decoded executed
 unfolding shown_by
-no_value_shown cycle delivered fetched ID/EX.Empty executed o = refl
-no_value_shown cycle delivered fetched (ID/EX.Holds i p) executed o = refl
+no_value_shown cycle delivered fetched None executed o = refl
+no_value_shown cycle delivered fetched (Some (i, p)) executed o = refl
 
 -- "cycle (two decimal digits, 67 at most)"
 pub row_cycle : (u : Unit) → (cycled_of u).refusal ≡ 0 → (shown_of u).cycle ≤ 67
@@ -81,12 +76,12 @@ row_cycle u e =
 -- ---- the register written, and its new value
 
 change_by : (latch : ExWb) (f : List Register) → changed_by (change_of latch) f ≡ after_wb latch f
-change_by EX/WB.Empty f = refl
-change_by (EX/WB.Holds i o) f = go i.target
+change_by None f = refl
+change_by (Some (i, o)) f = go i.target
   where
-    go : (t : Target) → changed_by (change_to t o) f ≡ stored t o.value f
+    go : (t : Option Pointer) → changed_by (change_to t o) f ≡ stored t o.value f
     go None = refl
-    go (ToRegister p) = refl
+    go (Some p) = refl
 
 -- the register and the value that a row shows are those by which the cycle changes the registers
 pub row_change : (u : Unit) → (cycle_of u).registers ≡ changed_by (shown_of u).change u.registers
@@ -95,8 +90,8 @@ row_change u = sym (change_by u.executed u.registers)
 
 -- every instruction that a well-made unit holds is the instruction of its word
 abbrev held_in : Edition → IfId → Instruction
-held_in edition IF/ID.Empty = instruction_of edition 0
-held_in edition (IF/ID.Holds i) = i
+held_in edition None = instruction_of edition 0
+held_in edition (Some i) = i
 
 abbrev OfItsWord : Edition → IfId → Type 0
 OfItsWord edition z = held_in edition z ≡ instruction_of edition (held_in edition z).word
@@ -105,16 +100,16 @@ fetched_of_its_word : (p : Program) (c : ℕ) → OfItsWord p.edition (fetched_i
 fetched_of_its_word p zero = refl
 fetched_of_its_word p (suc k) = go (ltb k p.n.0)
   where
-    go : (t : Bool) → OfItsWord p.edition (cond t (IF/ID.Holds (instruction_at p k)) IF/ID.Empty)
+    go : (t : Bool) → OfItsWord p.edition (cond t (Some (instruction_at p k)) None)
     go true = refl
     go false = refl
 
 nothing_of : (edition : Edition) (latch : ExWb) → OfItsWord edition (in_executed latch) → is_nothing (change_of latch) ≡ writes_nothing edition (stage_of (in_executed latch))
 unfolding target_of
-nothing_of edition EX/WB.Empty e = refl
-nothing_of edition (EX/WB.Holds i o) e = rw (ap (λ (j : Instruction). j.target) e) (go (is_nop i.word || is_wired edition (rd_of i.word)))
+nothing_of edition None e = refl
+nothing_of edition (Some (i, o)) e = rw (ap (λ (j : Instruction). j.target) e) (go (is_nop i.word || is_wired edition (rd_of i.word)))
   where
-    go : (t : Bool) → is_nothing (change_to (cond t None (ToRegister (rd_of i.word))) o) ≡ t
+    go : (t : Bool) → is_nothing (change_to (cond t None (Some (rd_of i.word))) o) ≡ t
     go true = refl
     go false = refl
 
@@ -127,17 +122,17 @@ row_nothing u made =
 
 -- ---- the flags
 
-shows_to : (target : Target) (o : Outcome) (p : Pointer) → is_target target p ≡ shows (change_to target o) p
+shows_to : (target : Option Pointer) (o : Outcome) (p : Pointer) → is_target target p ≡ shows (change_to target o) p
 shows_to None o p = refl
-shows_to (ToRegister q) o p = refl
+shows_to (Some q) o p = refl
 
 shows_of : (latch : ExWb) (p : Pointer) → writes_to latch p ≡ shows (change_of latch) p
-shows_of EX/WB.Empty p = refl
-shows_of (EX/WB.Holds i o) p = shows_to i.target o p
+shows_of None p = refl
+shows_of (Some (i, o)) p = shows_to i.target o p
 
 flags_by : (edition : Edition) (wb : ExWb) (ex : IdEx) → OfItsWord edition (in_decoded ex) → flags_of wb ex ≡ flags_shown (stage_of (in_decoded ex)) (change_of wb)
-flags_by edition wb ID/EX.Empty e = refl
-flags_by edition wb (ID/EX.Holds i o) e =
+flags_by edition wb None e = refl
+flags_by edition wb (Some (i, o)) e =
     let first = there i.first (first_of i.word) (ap (λ (j : Instruction). j.first) e) in
     let second = there i.second (rs2_of i.word) (ap (λ (j : Instruction). j.second) e) in
     let third = there i.third (rs3_of i.word) (ap (λ (j : Instruction). j.third) e) in
@@ -164,16 +159,16 @@ module _ (u : Unit) (made : well_made_of u ≡ true) (second : u.program.edition
   register_0_not_shown p zeroth = sym (shows_of u.executed p) ∙ go u.executed (well_made_says u made).placed.in_ex_wb
     where
       go : (x : ExWb) → in_executed x ≡ fetched_in u.program (u.cycle - 2) → writes_to x p ≡ false
-      go EX/WB.Empty e = refl
-      go (EX/WB.Holds i o) e = not_0 u.program second (u.cycle - 2) i e p zeroth
+      go None e = refl
+      go (Some (i, o)) e = not_0 u.program second (u.cycle - 2) i e p zeroth
 
   -- a word in WB that names it as its rd shows `--`
-  pub dropped_shows_nothing : (w : ℕ) → (shown_of u).write ≡ In.Holds w → (rd_of w).0 ≡ 0 → is_nothing (shown_of u).change ≡ true
+  pub dropped_shows_nothing : (w : ℕ) → (shown_of u).write ≡ Some w → (rd_of w).0 ≡ 0 → is_nothing (shown_of u).change ≡ true
   dropped_shows_nothing w here zeroth =
       row_nothing u made ∙ ap (writes_nothing u.program.edition) here ∙ the_second (is_nop w) (ap (λ (e : Edition). is_wired e (rd_of w)) second ∙ eq-eqb (rd_of w).0 0 zeroth)
 
   -- and of the word in EX, no field that names it has its flag
-  pub register_0_raises_nothing : (w : ℕ) → (shown_of u).execute ≡ In.Holds w
+  pub register_0_raises_nothing : (w : ℕ) → (shown_of u).execute ≡ Some w
       → ((first_of w).0 ≡ 0 → (shown_of u).flags.rs1 ≡ false) × ((rs2_of w).0 ≡ 0 → (shown_of u).flags.rs2 ≡ false) × ((rs3_of w).0 ≡ 0 → (shown_of u).flags.rs3 ≡ false)
   register_0_raises_nothing w here =
       let all = row_flags u made ∙ ap (λ (s : Stage). flags_shown s (shown_of u).change) here in (
@@ -186,31 +181,31 @@ module _ (u : Unit) (made : well_made_of u ≡ true) (second : u.program.edition
       none true p zeroth = register_0_not_shown p zeroth
       none false p zeroth = refl
 
-li_shown : (w : ℕ) (x : Change) → is_li w ≡ true → flags_shown (In.Holds w) x ≡ record { rs1 = shows x (rd_of w); rs2 = false; rs3 = false }
+li_shown : (w : ℕ) (x : Change) → is_li w ≡ true → flags_shown (Some w) x ≡ record { rs1 = shows x (rd_of w); rs2 = false; rs3 = false }
 unfolding operation_of first_of
 li_shown w x h = rw h
 
 -- "the first flag for li is 1 exactly when WB writes li's rd": when the row shows that its rd was written; and the other two are 0
-pub li_flags : (u : Unit) (w : ℕ) → well_made_of u ≡ true → (shown_of u).execute ≡ In.Holds w → is_li w ≡ true
+pub li_flags : (u : Unit) (w : ℕ) → well_made_of u ≡ true → (shown_of u).execute ≡ Some w → is_li w ≡ true
     → (shown_of u).flags ≡ record { rs1 = shows (shown_of u).change (rd_of w); rs2 = false; rs3 = false }
 li_flags u w made here h = row_flags u made ∙ ap (λ (s : Stage). flags_shown s (shown_of u).change) here ∙ li_shown w (shown_of u).change h
 
 -- the immediate of SHRHI or MLHCU is no register pointer
-pub immediate_raises_nothing : (w : ℕ) (x : Change) → (operation_of w ≡ Operation.shrhi) ⊎ (operation_of w ≡ Operation.mlhcu) → (flags_shown (In.Holds w) x).rs2 ≡ false
+pub immediate_raises_nothing : (w : ℕ) (x : Change) → (operation_of w ≡ Operation.shrhi) ⊎ (operation_of w ≡ Operation.mlhcu) → (flags_shown (Some w) x).rs2 ≡ false
 immediate_raises_nothing w x = ⊎_elim (λ e. rw e) (λ e. rw e)
 
 -- "it never forwards": where nothing is written, as with a NOP in WB, no flag is raised
-pub nothing_raises_nothing : (s : Stage) → flags_shown s Nothing ≡ record { rs1 = false; rs2 = false; rs3 = false }
-nothing_raises_nothing In.Empty = refl
-nothing_raises_nothing (In.Holds w) = simp and-false
+pub nothing_raises_nothing : (s : Stage) → flags_shown s None ≡ record { rs1 = false; rs2 = false; rs3 = false }
+nothing_raises_nothing None = refl
+nothing_raises_nothing (Some w) = simp and-false
 
 operand_by : (wb : ExWb) (reads : Bool) (p : Pointer) (latched : Register) → newest wb reads p latched ≡ operand_shown (flag_of reads wb p) (change_of wb) latched
-operand_by EX/WB.Empty reads p latched = refl
-operand_by (EX/WB.Holds i o) reads p latched = go i.target
+operand_by None reads p latched = refl
+operand_by (Some (i, o)) reads p latched = go i.target
   where
-    go : (t : Target) → cond (reads && is_target t p) o.value latched ≡ operand_shown (reads && is_target t p) (change_to t o) latched
+    go : (t : Option Pointer) → cond (reads && is_target t p) o.value latched ≡ operand_shown (reads && is_target t p) (change_to t o) latched
     go None = simp and-false
-    go (ToRegister q) = refl
+    go (Some q) = refl
 
 operands_by : (wb : ExWb) (i : Instruction) (o : Operands) → newest_operands wb i o ≡ operands_shown (flags_for wb i) (change_of wb) o
 operands_by wb i o =
@@ -219,7 +214,7 @@ operands_by wb i o =
     let third = operand_by wb (takes_third (read_by i)) i.third o.third in
     λ k. record { first = first k; second = second k; third = third k }
 
-module _ (u : Unit) (i : Instruction) (o : Operands) (here : u.decoded ≡ ID/EX.Holds i o) where
+module _ (u : Unit) (i : Instruction) (o : Operands) (here : u.decoded ≡ Some (i, o)) where
   -- "Where WB writes a register that this instruction reads, WB's value takes the place of the latched one": where a flag is 1, which is only where the row shows
   -- a value (`nothing_raises_nothing`), EX takes that for the operand, and otherwise the latched one
   pub row_operands : newest_operands u.executed i o ≡ operands_shown (shown_of u).flags (shown_of u).change o
@@ -320,12 +315,12 @@ module _ (u : Unit) (whole : Whole u.registers) (made : well_made_of u ≡ true)
 
 -- the mark of a latch is shown with the register that is written
 mark_by : (latch : ExWb) → is_nothing (change_of latch) ≡ false → mark_shown (change_of latch) ≡ mark_in latch
-mark_by EX/WB.Empty e = refl
-mark_by (EX/WB.Holds i o) e = go i.target e
+mark_by None e = refl
+mark_by (Some (i, o)) e = go i.target e
   where
-    go : (t : Target) → is_nothing (change_to t o) ≡ false → mark_shown (change_to t o) ≡ o.mark
+    go : (t : Option Pointer) → is_nothing (change_to t o) ≡ false → mark_shown (change_to t o) ≡ o.mark
     go None f = absurd (false≢true (sym f))
-    go (ToRegister p) f = refl
+    go (Some p) f = refl
 
 -- "The mark travels through the latch to the row": the row of cycle k + 4 since a go, which has line k in WB, shows the mark that plain execution answers for that line, where
 -- it does not show `--`

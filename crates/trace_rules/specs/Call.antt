@@ -6,7 +6,7 @@ use Rattle.table.specs.Decided.{decided}
 use Rattle.table.specs.Refusal.{DRAINED, ROOM, STATE}
 use Rattle.row_rules.specs.Text.{row_text, row_size}
 use Rattle.unit_rules.specs.declared.Unit.{Unit}
-use Rattle.unit_rules.specs.declared.Cycled.{Cycled}
+use Rattle.unit_rules.specs.Answers.{Cycled}
 use Rattle.unit_rules.specs.Cycle.{cycle_of}
 use Rattle.unit_rules.specs.Record.{drained_of, well_made_of}
 use Rattle.trace_rules.specs.RowOfCycle.{shown_of}

@@ -3,14 +3,15 @@
 use Rattle.std.specs.Prelude.{ℕ, zero, suc, ◌%◌, cond, List, [], ◌∷◌, ◌++◌, eqb, ltb, length, replicate}
 use Rattle.buffer.specs.Front.{at_front}
 use Rattle.table.specs.Decided.{decided}
-use Rattle.table.specs.Refusal.{ROOM}
+use Rattle.std.specs.declared.result.Result.{Result}
+use Rattle.table.specs.declared.refusal.Refusal.{Refusal}
+use Rattle.table.specs.Refusal.{ROOM, number_in, value_in}
 use Rattle.row_rules.specs.Text.{digit, two_digits, behind_space, newline, row_text}
 use Rattle.unit_rules.specs.declared.Unit.{Unit}
-use Rattle.unit_rules.specs.declared.Loaded.{Loaded}
+use Rattle.unit_rules.specs.Answers.{Loaded}
 use Rattle.unit_rules.specs.Cycle.{cycles_of}
 use Rattle.unit_rules.specs.Calls.{fresh_of, load_of, go_of, ran_of}
 use Rattle.trace_rules.specs.RowOfCycle.{shown_of}
-use Rattle.trace_rules.specs.declared.TextAnswer.{TextAnswer}
 use Rattle.trace_rules.specs.declared.WholeText.{WholeText}
 
 -- "one row a cycle": the rows of so many cycles
@@ -49,6 +50,15 @@ text_for s = cond (eqb s.refusal 0) (trace_text (go_of s.unit).unit) (refused_te
 -- "reads a job from standard input, starts a fresh unit, prints ...": it loads on a fresh unit and goes
 unfoldable pub job_text : List ℕ → List ℕ
 job_text file = text_for (load_of file fresh_of)
+
+-- how a text was put into a lent buffer: 0 and its size, or 9
+pub record TextAnswer : Type 0 where
+  pub refusal : ℕ
+  pub size : ℕ
+
+-- for each case of an answer its number and its size
+abbrev pub said_put : Result ℕ Refusal → TextAnswer
+said_put answer = record { refusal = number_in answer; size = value_in 0 answer }
 
 -- a text at the front of a lent buffer: 9 where it has too few bytes
 unfoldable pub put_of : List ℕ → List ℕ → TextAnswer × List ℕ

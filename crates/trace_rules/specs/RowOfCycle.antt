@@ -3,35 +3,30 @@
 use Rattle.std.specs.Prelude.{ℕ, ◌+◌, Bool, false, ◌&&◌}
 use Rattle.alu_rules.specs.declared.Outcome.{Outcome}
 use Rattle.table.specs.declared.Pointer.{Pointer}
-use Rattle.table.specs.declared.Target.{Target}
-use Rattle.table.specs.declared.Target.TheVariants.{None, To as ToRegister}
+use Rattle.std.specs.declared.option.Option.{Option}
+use Rattle.std.specs.declared.option.Option.TheVariants.{None, Some}
 use Rattle.table.specs.Operation.{takes_first, takes_second, takes_third}
-use Rattle.row_rules.specs.declared.Stage.{Stage}
-use Rattle.row_rules.specs.declared.Stage.TheVariants as In
+use Rattle.row_rules.specs.Shown.{Stage}
 use Rattle.row_rules.specs.declared.Flags.{Flags}
-use Rattle.row_rules.specs.declared.Change.{Change}
-use Rattle.row_rules.specs.declared.Change.TheVariants.{Nothing, To}
+use Rattle.row_rules.specs.Shown.{Change}
 use Rattle.row_rules.specs.declared.Row.{Row}
 use Rattle.unit_rules.specs.declared.Instruction.{Instruction}
-use Rattle.unit_rules.specs.declared.IfId.{IfId}
-use Rattle.unit_rules.specs.declared.IfId.TheVariants as IF/ID
-use Rattle.unit_rules.specs.declared.IdEx.{IdEx}
-use Rattle.unit_rules.specs.declared.IdEx.TheVariants as ID/EX
-use Rattle.unit_rules.specs.declared.ExWb.{ExWb}
-use Rattle.unit_rules.specs.declared.ExWb.TheVariants as EX/WB
+use Rattle.unit_rules.specs.Latches.{IfId}
+use Rattle.unit_rules.specs.Latches.{IdEx}
+use Rattle.unit_rules.specs.Latches.{ExWb}
 use Rattle.unit_rules.specs.declared.Unit.{Unit}
 use Rattle.unit_rules.specs.Cycle.{is_target, read_by, after_if}
 use Rattle.unit_rules.specs.Record.{in_decoded, in_executed}
 
 -- "the words in IF, ID, EX, WB"
 abbrev pub stage_of : IfId → Stage
-stage_of IF/ID.Empty = In.Empty
-stage_of (IF/ID.Holds i) = In.Holds i.word
+stage_of None = None
+stage_of (Some i) = Some i.word
 
 -- "WB writes that register"
 abbrev pub writes_to : ExWb → Pointer → Bool
-writes_to EX/WB.Empty p = false
-writes_to (EX/WB.Holds i o) p = is_target i.target p
+writes_to None p = false
+writes_to (Some (i, o)) p = is_target i.target p
 
 -- "A flag is 1 exactly when EX's instruction reads that field by the table and WB writes that register."
 abbrev pub flag_of : Bool → ExWb → Pointer → Bool
@@ -46,17 +41,17 @@ flags_for wb i = record {
 }
 
 abbrev pub flags_of : ExWb → IdEx → Flags
-flags_of wb ID/EX.Empty = record { rs1 = false; rs2 = false; rs3 = false }
-flags_of wb (ID/EX.Holds i o) = flags_for wb i
+flags_of wb None = record { rs1 = false; rs2 = false; rs3 = false }
+flags_of wb (Some (i, o)) = flags_for wb i
 
 -- "the register written", "its new value"; "The mark travels through the latch to the row": the outcome has both
-abbrev pub change_to : Target → Outcome → Change
-change_to None o = Nothing
-change_to (ToRegister p) o = To p o
+abbrev pub change_to : Option Pointer → Outcome → Change
+change_to None o = None
+change_to (Some p) o = Some (p, o)
 
 abbrev pub change_of : ExWb → Change
-change_of EX/WB.Empty = Nothing
-change_of (EX/WB.Holds i o) = change_to i.target o
+change_of None = None
+change_of (Some (i, o)) = change_to i.target o
 
 -- a row, from the cycle's number, what IF delivers in it and what the latches hold at its start
 unfoldable pub shown_by : ℕ → IfId → IfId → IdEx → ExWb → Row

@@ -6,14 +6,7 @@
 // The bytes of the largest text: 67 rows and a line of END.
 pub const LARGEST_TEXT: usize = 5233;
 
-// How a text was put into a lent buffer: 0 and its size, or 9.
-#[derive(Clone, Copy)]
-pub struct TextAnswer {
-    pub refusal: u32,
-    pub size: usize,
-}
-
-// A text by value: its bytes, zeros behind them, and its size.
+// A text by value: its bytes, zeros behind them, and its size. It is an array with a size beside it, since there is no heap.
 #[derive(Clone, Copy)]
 pub struct WholeText {
     pub bytes: [u8; LARGEST_TEXT],

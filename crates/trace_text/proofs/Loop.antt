@@ -1,13 +1,13 @@
 -- A turn of the loop over rows: the row that it shows is that of the unit after the cycles made so far, and stands behind the rows before it. Carried
 -- by `deliver` of crate `unit_rules`, `no_value_shown` of crate `trace_rules` and `row_fits` of crate `row_rules`.
 -- Assumes nothing.
-use Rattle.trace_rules.proofs.Shared.{at_front, from_start, then_from, at_end, row_text, row_size, row_at, row_fits, Unit, shown_by, shown_of, rows_of}
+use Rattle.trace_rules.proofs.Shared.{at_front, from_start, then_from, row_text, row_size, row_at, row_fits, Unit, shown_by, shown_of, rows_of}
 use Rattle.unit_rules.proofs.Shared.{ℕ, ◌+◌, ◌*◌, ◌%◌, ◌≤◌, ◌≡◌, sym, ap, ◌∙◌, List, add_assoc, add-one, length, get_or, Register, cycles_of}
 use Rattle.unit_rules.proofs.Shared.{in_decoded, decoded_with, delivered_of, unit_with}
 use Rattle.row_rules.specs.declared.Row.{Row}
-use Rattle.unit_rules.specs.declared.IfId.{IfId}
+use Rattle.unit_rules.specs.Latches.{IfId}
 use Rattle.unit_rules.specs.declared.InFlight.{InFlight}
-use Rattle.unit_rules.specs.declared.Operands.{Operands}
+use Rattle.unit_rules.specs.Latches.{Operands}
 use Rattle.unit_rules.proofs.OneCycle.{deliver}
 use Rattle.trace_rules.proofs.Theorems.{no_value_shown}
 use Rattle.trace_rules.proofs.TextLengths.{rows_long}
@@ -28,7 +28,3 @@ module _ (i : ℕ) (u : Unit) {f : List Register} {l : InFlight} {delivered held
   row_more old out room before put =
       let written : _ ≡ from_start (row_size * i) (row_text row) out = ap (λ (z : ℕ × List ℕ). z.1) (put ∙ sym (row_fits row (row_size * i) out room)) in
       written ∙ then_from (row_size * i) (rows_of i u) (row_text row) old out (rows_long i u) before ∙ rw (its_row, add-one i)
-
--- after the last turn
-pub rows_made : (u : Unit) (old : List ℕ) {i m : ℕ} {out : List ℕ} → i ≤ m → m ≤ i → out ≡ at_front (rows_of i u) old → out ≡ at_front (rows_of m u) old
-rows_made u old few all e = at_end (λ k. at_front (rows_of k u) old) _ _ few all e

@@ -28,10 +28,7 @@ fn put_end_word(out: &mut [u8])
     requires { 4 ≤ length out.old }
     ensures { out.new ≡ at_front (69 ∷ 78 ∷ 68 ∷ 32 ∷ []) out.old }
 {
-    out[0] = b'E';
-    out[1] = b'N';
-    out[2] = b'D';
-    out[3] = b' ';
+    out[..4].copy_from_slice(b"END ");
 }
 
 pub(crate) fn put_end(out: &mut [u8], count: u32)
@@ -46,14 +43,7 @@ fn put_refused_word(out: &mut [u8])
     requires { 8 ≤ length out.old }
     ensures { out.new ≡ at_front (82 ∷ 69 ∷ 70 ∷ 85 ∷ 83 ∷ 69 ∷ 68 ∷ 32 ∷ []) out.old }
 {
-    out[0] = b'R';
-    out[1] = b'E';
-    out[2] = b'F';
-    out[3] = b'U';
-    out[4] = b'S';
-    out[5] = b'E';
-    out[6] = b'D';
-    out[7] = b' ';
+    out[..8].copy_from_slice(b"REFUSED ");
 }
 
 pub(crate) fn refused_size(number: u32) -> usize

@@ -2,6 +2,7 @@
 -- Assumes nothing.
 use Rattle.unit_rules.proofs.Shared.{ℕ, zero, suc, ◌+◌, ◌-◌, ◌≤◌, ◌<◌, ◌≡◌, refl, sym, ap, subst, ◌∙◌, true, List, [], ◌∷◌, map, arith, length, take, drop, Register}
 use Rattle.unit_rules.proofs.Shared.{plain, cycles_of, cond, Bool, false, eqb, last_of, well_made_of, unit_with, Whole}
+use Rattle.unit_rules.proofs.Shared.{map-id}
 use lib.ListN.{length-map}
 use lib.Seq.{take-take}
 use Rattle.unit_rules.specs.declared.Unit.{Unit}
@@ -14,6 +15,10 @@ use Rattle.unit_rules.proofs.Positions.{cycles_program, cycles_number}
 -- the registers of a unit are 32: as a field of a struct the checker knows them as the fields of each
 pub whole_field : {X : Type 0} (f : Register → X) (l : List Register) → length (map f l) ≡ 32 → Whole l
 whole_field f l e = sym (length-map l f) ∙ e
+
+-- and so is a number up to the size of an array that is a field
+pub within : (l : List ℕ) (i n : ℕ) → length (map (λ (x : ℕ). x) l) ≡ n → i ≤ n → i ≤ length l
+within l i n e h = let f : length l ≡ n = sym (ap length (map-id l)) ∙ e in omega arith
 
 -- at most n lines have completed
 pub lines_completed : (n c : ℕ) → c ≤ last_of n → c - 3 ≤ n

@@ -3,7 +3,7 @@
 use Rattle.unit_rules.proofs.Shared.{ℕ, ◌+◌, ◌-◌, ◌≤◌, min, ◌≡◌, sym, ◌∙◌, Bool, true, false, arith, leb-false, cycles_of, drained_of}
 use Rattle.unit_rules.proofs.Shared.{last_of, well_made_of, ran_of}
 use Rattle.unit_rules.specs.declared.Unit.{Unit}
-use Rattle.unit_rules.specs.declared.Ran.{Ran}
+use Rattle.unit_rules.specs.Answers.{Ran}
 use Rattle.unit_rules.proofs.Positions.{drained_is, not_drained_gone}
 use Rattle.unit_rules.proofs.WellMade.{well_made_says}
 use Rattle.unit_rules.proofs.Calls.{ran, run_of_drained}

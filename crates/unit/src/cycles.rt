@@ -1,4 +1,6 @@
-// Cycles made one by one, stage by stage: the unit is taken apart once, and nothing of the size of the register file or the program is handed on in a cycle.
+// Cycles made one by one: the registers and what is in flight are the locals of the loop, and nothing of the size of the register file or the program is copied in a cycle.
+// Each function asks for itself that the unit is well made and has the cycles left. A struct of a lent unit and a number of cycles, with both as ghost fields, was tried:
+// the proof of `by_lines` did not close, since the lengths of the unit's arrays are not known behind it.
 
 ghost use Rattle.std.specs.Prelude.{◌+◌, ◌≤◌, ◌≡◌, true};
 ghost use Rattle.unit_rules.specs.Cycle.{cycles_of};
@@ -6,32 +8,22 @@ ghost use Rattle.unit_rules.specs.Record.{last_of, well_made_of};
 ghost use Rattle.unit_rules.specs.Stages.{unit_with};
 
 use register::Register;
-use table::Count;
-use unit_rules::{ExWb, IdEx, IfId, Operands, Unit};
-use unit_stages::{decode, execute, fetch, write_back};
+use unit_rules::{InFlight, Unit};
+use unit_stages::{in_flight, turn};
 
 // The unit put together again after so many cycles.
-pub(crate) fn reassembled(
-    u: Unit,
-    m: u32,
-    registers: [Register; 32],
-    count: Count,
-    fetched: IfId,
-    decoded: IdEx,
-    executed: ExWb,
-) -> Unit
+pub(crate) fn reassembled(u: Unit, m: u32, registers: [Register; 32], flight: InFlight) -> Unit
     requires { u.cycle + m ≤ 67 }
-    ensures { result ≡ unit_with u m registers (record { count = count; fetched = fetched; decoded = decoded; executed = executed }) }
+    ensures { result ≡ unit_with u m registers flight }
 {
-    let program = u.program;
     Unit {
-        program,
-        count,
+        program: u.program,
+        count: flight.count,
         cycle: u.cycle + m,
         registers,
-        fetched,
-        decoded,
-        executed,
+        fetched: flight.fetched,
+        decoded: flight.decoded,
+        executed: flight.executed,
         gone: u.gone,
     }
 }
@@ -41,38 +33,10 @@ pub(crate) fn one_by_one(u: Unit, m: u32) -> Unit
     requires { (well_made_of u ≡ true) × (u.cycle + m ≤ last_of u.program.n.0) }
     ensures { result ≡ cycles_of m u }
 {
-    let words = u.program.words;
-    let n = u.program.n;
-    let program = u.program;
-    let edition = program.edition;
     let mut registers = u.registers;
-    let mut count = u.count;
-    let mut fetched = u.fetched;
-    let mut decoded = u.decoded;
-    let mut executed = u.executed;
-    let mut made: u32 = 0;
-    while made < m {
-        made += 1;
-        let write = write_back::written(executed);
-        let at = write.at.0 as usize;
-        let value = write.value;
-        if write.writes {
-            registers[at] = value;
-        }
-        let from = decode::read_from(fetched);
-        let first = from.first.0 as usize;
-        let second = from.second.0 as usize;
-        let third = from.third.0 as usize;
-        executed = execute::executed(write, decoded);
-        let read = Operands {
-            first: registers[first],
-            second: registers[second],
-            third: registers[third],
-        };
-        let here = (count.0 % 64) as usize;
-        decoded = decode::decoded(fetched, read);
-        fetched = fetch::delivered(edition, n, count, words[here]);
-        count = fetch::next_count(n, count);
+    let mut flight = in_flight(u);
+    for _ in 0..m {
+        flight = turn(&u.program, &mut registers, flight);
     }
-    reassembled(u, m, registers, count, fetched, decoded, executed)
+    reassembled(u, m, registers, flight)
 }

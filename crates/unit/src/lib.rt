@@ -3,6 +3,8 @@
 #![tactic(auto)]
 
 ghost use Rattle.std.specs.Prelude.{◌≡◌};
+ghost use Rattle.std.specs.declared.result.Result.TheVariants.{Err};
+ghost use Rattle.unit_rules.specs.Answers.{said_cycled, said_ran};
 ghost use Rattle.unit_rules.specs.Calls.{cycled_of, ran_of};
 
 mod ask;
@@ -14,59 +16,56 @@ pub use crate::ask::{drained, register_of};
 pub use crate::begin::{fresh, go, load};
 use crate::cycles::one_by_one;
 use crate::settled::cycles;
-use table::refusal;
-use unit_record::numbers::{last, lesser};
+use table::refusal::Refusal;
+use unit_record::numbers::last;
 use unit_record::{is_drained, well_made};
-use unit_rules::{Cycled, Ran, Unit};
+use unit_rules::{Answered, Unit};
+
+// A refusal, beside the unit as it was given.
+pub(crate) fn refused<T: Copy>(why: Refusal, unit: Unit) -> Answered<T>
+    ensures { result ≡ record { answer = Err why; unit = unit } }
+{
+    Answered {
+        answer: Err(why),
+        unit,
+    }
+}
 
 // Makes one cycle. Refused with 10 where the record is not well made, with 8 where the unit is drained.
-pub fn cycle(u: Unit) -> Cycled
-    ensures { result ≡ cycled_of u }
+#[tactic(auto, using(table::proofs::Decided::deciding), unfolding(unit_rules::specs::Calls::cycled_of))]
+pub fn cycle(u: Unit) -> Answered<()>
+    ensures { said_cycled result ≡ cycled_of u }
 {
-    if well_made(u) {
-        if is_drained(u) {
-            return Cycled {
-                refusal: refusal::DRAINED,
-                unit: u,
-            };
-        }
-        let after = one_by_one(u, 1);
-        return Cycled {
-            refusal: 0,
-            unit: after,
-        };
+    if !well_made(u) {
+        return refused(Refusal::State, u);
     }
-    Cycled {
-        refusal: refusal::STATE,
-        unit: u,
+    if is_drained(u) {
+        return refused(Refusal::Drained, u);
+    }
+    Answered {
+        answer: Ok(()),
+        unit: one_by_one(u, 1),
     }
 }
 
 // Makes as many cycles as the budget allows and the unit has left, and answers how many. Refused with 10 only: a drained unit makes 0. They are not gone through one
 // by one, but by the lines that complete in them.
-pub fn run(u: Unit, budget: u32) -> Ran
-    ensures { result ≡ ran_of u budget }
+#[tactic(auto, using(table::proofs::Decided::deciding), unfolding(unit_rules::specs::Calls::ran_of))]
+pub fn run(u: Unit, budget: u32) -> Answered<u32>
+    ensures { said_ran result ≡ ran_of u budget }
 {
-    if well_made(u) {
-        if is_drained(u) {
-            return Ran {
-                refusal: 0,
-                made: 0,
-                unit: u,
-            };
-        }
-        let end = last(u.program.n);
-        let made = lesser(budget, end - u.cycle);
-        let after = cycles(u, made);
-        return Ran {
-            refusal: 0,
-            made: made,
-            unit: after,
+    if !well_made(u) {
+        return refused(Refusal::State, u);
+    }
+    if is_drained(u) {
+        return Answered {
+            answer: Ok(0),
+            unit: u,
         };
     }
-    Ran {
-        refusal: refusal::STATE,
-        made: 0,
-        unit: u,
+    let made = budget.min(last(u.program.n) - u.cycle);
+    Answered {
+        answer: Ok(made),
+        unit: cycles(u, made),
     }
 }

@@ -7,6 +7,7 @@ use denote.Triple.Clauses.{AtExit}
 use denote.Triple.Entry.{Args, Res}
 use Prim.Native.Nat.{◌+◌}
 use lib.Dec.{leb}
+use Rattle.table.specs.Refusal.{number_in, value_in}
 use Rattle.row_rules.specs.Text.{row_size}
 use Rattle.unit_rules.specs.Sequence.{unit_after, made_unless, cycles_in}
 use Rattle.unit_rules.specs.Sequence.Call.{load as a_load, go as a_go, cycle as a_cycle, row as a_row, run as a_run}
@@ -31,40 +32,40 @@ pub go_as_a_call : (κs : Lfts 1) (a : Args go.signature κs) (r : Res go.signat
 go_as_a_call κs a r s p = ap (λ z. z.unit) p
 
 pub cycle_as_a_call : (κs : Lfts 1) (a : Args cycle.signature κs) (r : Res cycle.signature κs) (s : AtExit cycle.ended κs)
-    → cycle_promise κs a r s → (s.0.now ≡ unit_after a_cycle a.0.now) × (made_unless r ≡ cycles_in a_cycle a.0.now)
+    → cycle_promise κs a r s → (s.0.now ≡ unit_after a_cycle a.0.now) × (made_unless (number_in r) ≡ cycles_in a_cycle a.0.now)
 cycle_as_a_call κs a r s p = (ap (λ z. z.unit) p, ap (λ z. made_unless z.refusal) p)
 
 pub cycle_with_row_as_a_call : (κs : Lfts 2) (a : Args cycle_with_row.signature κs) (r : Res cycle_with_row.signature κs) (s : AtExit cycle_with_row.ended κs)
     → cycle_with_row_promise κs a r s
-    → (let x = a_row (leb (a.1.1.0 + row_size) (length a.1.0.now)) in (s.0.now ≡ unit_after x a.0.now) × (made_unless r ≡ cycles_in x a.0.now))
+    → (let x = a_row (leb (a.1.1.0 + row_size) (length a.1.0.now)) in (s.0.now ≡ unit_after x a.0.now) × (made_unless (number_in r) ≡ cycles_in x a.0.now))
 cycle_with_row_as_a_call κs a r s p =
     let call = shown.row_is_a_call a.0.now a.1.1.0 a.1.0.now in
     (ap (λ z. z.0.unit) p ∙ call.0, ap (λ z. made_unless z.0.refusal) p ∙ call.1)
 
 pub run_as_a_call : (κs : Lfts 1) (a : Args run.signature κs) (r : Res run.signature κs) (s : AtExit run.ended κs)
-    → run_promise κs a r s → (s.0.now ≡ unit_after (a_run a.1.0) a.0.now) × (r.made ≡ cycles_in (a_run a.1.0) a.0.now)
+    → run_promise κs a r s → (s.0.now ≡ unit_after (a_run a.1.0) a.0.now) × (value_in 0 r ≡ cycles_in (a_run a.1.0) a.0.now)
 run_as_a_call κs a r s p = (ap (λ z. z.unit) p, ap (λ z. z.made) p)
 
 -- ---- after a refusal
 
 pub load_refused : (κs : Lfts 2) (a : Args load.signature κs) (r : Res load.signature κs) (s : AtExit load.ended κs)
-    → load_promise κs a r s → (r.refusal ≡ 0 → ⊥) → s.0.now ≡ a.0.now
+    → load_promise κs a r s → (number_in r ≡ 0 → ⊥) → s.0.now ≡ a.0.now
 load_refused κs a r s p h = ap (λ z. z.unit) p ∙ demand3_load_refused a.1.0.now a.0.now (λ e. h (ap (λ z. z.refusal) p ∙ e))
 
 pub go_refused : (κs : Lfts 1) (a : Args go.signature κs) (r : Res go.signature κs) (s : AtExit go.ended κs)
-    → go_promise κs a r s → (r ≡ 0 → ⊥) → s.0.now ≡ a.0.now
+    → go_promise κs a r s → (number_in r ≡ 0 → ⊥) → s.0.now ≡ a.0.now
 go_refused κs a r s p h = ap (λ z. z.unit) p ∙ model.go_refused a.0.now (λ e. h (ap (λ z. z.refusal) p ∙ e))
 
 pub cycle_refused : (κs : Lfts 1) (a : Args cycle.signature κs) (r : Res cycle.signature κs) (s : AtExit cycle.ended κs)
-    → cycle_promise κs a r s → (r ≡ 0 → ⊥) → s.0.now ≡ a.0.now
+    → cycle_promise κs a r s → (number_in r ≡ 0 → ⊥) → s.0.now ≡ a.0.now
 cycle_refused κs a r s p h = ap (λ z. z.unit) p ∙ model.cycle_refused a.0.now (λ e. h (ap (λ z. z.refusal) p ∙ e))
 
 pub cycle_with_row_refused : (κs : Lfts 2) (a : Args cycle_with_row.signature κs) (r : Res cycle_with_row.signature κs) (s : AtExit cycle_with_row.ended κs)
-    → cycle_with_row_promise κs a r s → (r ≡ 0 → ⊥) → (s.0.now ≡ a.0.now) × (s.1.0.now ≡ a.1.0.now)
+    → cycle_with_row_promise κs a r s → (number_in r ≡ 0 → ⊥) → (s.0.now ≡ a.0.now) × (s.1.0.now ≡ a.1.0.now)
 cycle_with_row_refused κs a r s p h =
     let kept = shown.refused_unaltered a.0.now a.1.1.0 a.1.0.now (λ e. h (ap (λ z. z.0.refusal) p ∙ e)) in
     (ap (λ z. z.0.unit) p ∙ kept.0, ap (λ z. z.1) p ∙ kept.1)
 
 pub run_refused : (κs : Lfts 1) (a : Args run.signature κs) (r : Res run.signature κs) (s : AtExit run.ended κs)
-    → run_promise κs a r s → (r.refusal ≡ 0 → ⊥) → s.0.now ≡ a.0.now
+    → run_promise κs a r s → (number_in r ≡ 0 → ⊥) → s.0.now ≡ a.0.now
 run_refused κs a r s p h = ap (λ z. z.unit) p ∙ model.run_refused a.0.now a.1.0 (λ e. h (ap (λ z. z.refusal) p ∙ e))

@@ -1,4 +1,2 @@
 pub mod RecordNumbers
-pub mod Equality
-pub mod WellMade
 pub mod Unique

@@ -3,12 +3,8 @@
 use mathlib.Core.Path.{refl}
 use Rattle.determined.specs.Determined.{Determined}
 use Rattle.determined.proofs.OneEquation.{by_value, no_requires}
-use Rattle.unit_record.proofs.numbers.lesser.Kinds as lesser_kinds
-use Rattle.unit_record.proofs.numbers.lesser.Reads as lesser_reads
 use Rattle.unit_record.proofs.numbers.last.Kinds as last_kinds
 use Rattle.unit_record.proofs.numbers.last.Reads as last_reads
-use Rattle.unit_record.proofs.numbers.cycles_before.Kinds as cycles_before_kinds
-use Rattle.unit_record.proofs.numbers.cycles_before.Reads as cycles_before_reads
 use Rattle.unit_record.proofs.numbers.count_at.Kinds as count_at_kinds
 use Rattle.unit_record.proofs.numbers.count_at.Reads as count_at_reads
 use Rattle.unit_record.proofs.numbers.program_made.Kinds as program_made_kinds
@@ -19,10 +15,6 @@ use Rattle.unit_record.proofs.latches.in_decoded.Kinds as in_decoded_kinds
 use Rattle.unit_record.proofs.latches.in_decoded.Reads as in_decoded_reads
 use Rattle.unit_record.proofs.latches.in_executed.Kinds as in_executed_kinds
 use Rattle.unit_record.proofs.latches.in_executed.Reads as in_executed_reads
-use Rattle.unit_record.proofs.latches.is_empty.Kinds as is_empty_kinds
-use Rattle.unit_record.proofs.latches.is_empty.Reads as is_empty_reads
-use Rattle.unit_record.proofs.latches.same_held.Kinds as same_held_kinds
-use Rattle.unit_record.proofs.latches.same_held.Reads as same_held_reads
 use Rattle.unit_record.proofs.fetched_in.Kinds as fetched_in_kinds
 use Rattle.unit_record.proofs.fetched_in.Reads as fetched_in_reads
 use Rattle.unit_record.proofs.well_made.Kinds as well_made_kinds
@@ -32,14 +24,8 @@ use Rattle.unit_record.proofs.is_drained.Reads as is_drained_reads
 use Rattle.unit_record.proofs.latches.instruction.Kinds as instruction_kinds
 use Rattle.unit_record.proofs.latches.instruction.Reads as instruction_reads
 
-pub lesser_unique : Determined 0 lesser_kinds.ps lesser_kinds.r lesser_reads.requires lesser_reads.Post
-lesser_unique = by_value (λ κs a. no_requires) (λ κs a v w. refl)
-
 pub last_unique : Determined 0 last_kinds.ps last_kinds.r last_reads.requires last_reads.Post
 last_unique = by_value (λ κs a. no_requires) (λ κs a v w. refl)
-
-pub cycles_before_unique : Determined 0 cycles_before_kinds.ps cycles_before_kinds.r cycles_before_reads.requires cycles_before_reads.Post
-cycles_before_unique = by_value (λ κs a. no_requires) (λ κs a v w. refl)
 
 pub count_at_unique : Determined 0 count_at_kinds.ps count_at_kinds.r count_at_reads.requires count_at_reads.Post
 count_at_unique = by_value (λ κs a. no_requires) (λ κs a v w. refl)
@@ -55,12 +41,6 @@ in_decoded_unique = by_value (λ κs a. no_requires) (λ κs a v w. refl)
 
 pub in_executed_unique : Determined 0 in_executed_kinds.ps in_executed_kinds.r in_executed_reads.requires in_executed_reads.Post
 in_executed_unique = by_value (λ κs a. no_requires) (λ κs a v w. refl)
-
-pub is_empty_unique : Determined 0 is_empty_kinds.ps is_empty_kinds.r is_empty_reads.requires is_empty_reads.Post
-is_empty_unique = by_value (λ κs a. no_requires) (λ κs a v w. refl)
-
-pub same_held_unique : Determined 0 same_held_kinds.ps same_held_kinds.r same_held_reads.requires same_held_reads.Post
-same_held_unique = by_value (λ κs a. no_requires) (λ κs a v w. refl)
 
 pub fetched_in_unique : Determined 1 fetched_in_kinds.ps fetched_in_kinds.r fetched_in_reads.requires fetched_in_reads.Post
 fetched_in_unique = by_value (λ κs a. no_requires) (λ κs a v w. refl)

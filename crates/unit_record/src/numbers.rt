@@ -1,30 +1,10 @@
 // The numbers of a unit's record: the cycle at which a program is drained, and whether a program, the count and the cycle number are well made.
 
-ghost use Rattle.std.specs.Prelude.{◌-◌, min, ◌≡◌};
+ghost use Rattle.std.specs.Prelude.{min, ◌≡◌};
 ghost use Rattle.table.specs.declared.Edition.TheVariants.{One};
 ghost use Rattle.unit_rules.specs.Record.{last_of, program_made, numbers_made};
 
 use table::{Count, refusal};
-
-// The lesser of two numbers.
-pub fn lesser(a: u32, b: u32) -> u32
-    ensures { result ≡ min a b }
-{
-    if a < b {
-        return a;
-    }
-    b
-}
-
-// The cycle so many before cycle c, and 0 where there is none.
-pub fn cycles_before(c: u32, k: u32) -> u32
-    ensures { result ≡ c - k }
-{
-    if c < k {
-        return 0;
-    }
-    c - k
-}
 
 // The cycle number at which a program of n lines is drained.
 pub fn last(n: Count) -> u32
@@ -46,26 +26,21 @@ pub fn count_at(n: Count, c: u32) -> Count
     n
 }
 
-// Whether n and the words are those of a well-made record. The edition has no part in it: in the contract the first stands for either.
+// Whether n and the words, of which there may be any number, are those of a well-made record. The edition has no part in it: in the contract the first stands for either.
+#[tactic(auto, using(crate::proofs::RecordNumbers::too_few_words))]
 pub fn program_made(words: &[u32], n: Count) -> bool
     ensures { result ≡ program_made (record { words = words.entry.now; n = n; edition = One }) }
 {
     let lines = n.0 as usize;
-    if lines > 64 {
-        return false;
-    }
     if words.len() < lines {
         return false;
     }
-    refusal::first_bad(&words[..lines]) >= lines
+    lines <= 64 && refusal::first_bad(&words[..lines]) >= lines
 }
 
 // Whether the cycle number and the count are those of a unit that has gone, with a program of n lines.
 pub fn numbers_made(n: Count, count: Count, cycle: u32) -> bool
     ensures { result ≡ numbers_made n.0 count.0 cycle }
 {
-    if last(n) < cycle {
-        return false;
-    }
-    count.0 == count_at(n, cycle).0
+    cycle <= last(n) && count == count_at(n, cycle)
 }

@@ -19,11 +19,9 @@ use Rattle.alu_rules.specs.Width.{signed, bits, within}
 use Rattle.alu_rules.specs.Result.{result_of, outcome_of}
 use Rattle.job_rules.specs.declared.Program.{Program}
 use Rattle.job_rules.specs.Read.{header_of, tested_of, body_of}
-use Rattle.unit_rules.specs.declared.IfId.{IfId}
-use Rattle.unit_rules.specs.declared.IfId.TheVariants as IF/ID
-use Rattle.unit_rules.specs.declared.IdEx.TheVariants as ID/EX
-use Rattle.unit_rules.specs.declared.ExWb.{ExWb}
-use Rattle.unit_rules.specs.declared.ExWb.TheVariants as EX/WB
+use Rattle.unit_rules.specs.Latches.{IfId}
+use Rattle.std.specs.declared.option.Option.TheVariants.{None, Some}
+use Rattle.unit_rules.specs.Latches.{ExWb}
 use Rattle.unit_rules.specs.declared.Unit.{Unit}
 use Rattle.unit_rules.specs.Cycle.{instruction_of, mark_in, cycle_of, cycles_of}
 use Rattle.unit_rules.specs.Record.{program_made, numbers_made, drained_of, well_made_of}
@@ -73,12 +71,12 @@ one_line gone = begun_of gone (lines (0 ∷ [])) (replicate 32 zero_register)
 
 abbrev but_for : Bool → ℕ → ℕ → IfId → Unit
 but_for gone c count fetched =
-    unit_with (one_line gone) c (replicate 32 zero_register) (record { count = record { 0 = count }; fetched = fetched; decoded = ID/EX.Empty; executed = EX/WB.Empty })
+    unit_with (one_line gone) c (replicate 32 zero_register) (record { count = record { 0 = count }; fetched = fetched; decoded = None; executed = None })
 
 -- "loaded and not gone, in which count and cycle are zero and the latches empty": as it is loaded, at cycle 1, at count 1, with an instruction, and with all that cycle 1 has
 pub resting : map well_made_of
     (one_line false
-    ∷ but_for false 1 0 IF/ID.Empty ∷ but_for false 0 1 IF/ID.Empty ∷ but_for false 0 0 (IF/ID.Holds (instruction_of One 0)) ∷ but_for false 1 1 (IF/ID.Holds (instruction_of One 0)) ∷ [])
+    ∷ but_for false 1 0 None ∷ but_for false 0 1 None ∷ but_for false 0 0 (Some (instruction_of One 0)) ∷ but_for false 1 1 (Some (instruction_of One 0)) ∷ [])
     ≡ (true ∷ false ∷ false ∷ false ∷ false ∷ [])
 unfolding well_made_of first_bad
 resting = refl
@@ -86,7 +84,7 @@ resting = refl
 -- gone, only the last of these is well made as well
 pub running : map well_made_of
     (one_line true
-    ∷ but_for true 1 0 IF/ID.Empty ∷ but_for true 0 1 IF/ID.Empty ∷ but_for true 0 0 (IF/ID.Holds (instruction_of One 0)) ∷ but_for true 1 1 (IF/ID.Holds (instruction_of One 0)) ∷ [])
+    ∷ but_for true 1 0 None ∷ but_for true 0 1 None ∷ but_for true 0 0 (Some (instruction_of One 0)) ∷ but_for true 1 1 (Some (instruction_of One 0)) ∷ [])
     ≡ (true ∷ false ∷ false ∷ false ∷ true ∷ [])
 unfolding well_made_of first_bad first_of operation_of target_of
 running = refl
@@ -156,7 +154,7 @@ mark_of_its_own_line = refl
 abbrev ill_made : Unit
 ill_made = unit_with fresh_of 1 fresh_of.registers (in_flight_of fresh_of)
 
-pub state_first : ((load_of [] ill_made).refusal ∷ (load_of [] (but_for true 1 0 IF/ID.Empty)).refusal ∷ (go_of ill_made).refusal ∷ (cycled_of ill_made).refusal ∷ (ran_of ill_made 1).refusal ∷ (register_of ill_made 32).refusal ∷ (asked_drained ill_made).refusal ∷ [])
+pub state_first : ((load_of [] ill_made).refusal ∷ (load_of [] (but_for true 1 0 None)).refusal ∷ (go_of ill_made).refusal ∷ (cycled_of ill_made).refusal ∷ (ran_of ill_made 1).refusal ∷ (register_of ill_made 32).refusal ∷ (asked_drained ill_made).refusal ∷ [])
     ≡ (10 ∷ 10 ∷ 10 ∷ 10 ∷ 10 ∷ 10 ∷ 10 ∷ [])
 unfolding load_of go_of cycled_of ran_of register_of asked_drained decided well_made_of drained_of first_bad
 state_first = refl
@@ -254,8 +252,8 @@ registers_each_cycle = refl
 
 -- word 0 of what EX/WB holds, 0 where it is empty
 abbrev value_in : ExWb → ℕ
-value_in EX/WB.Empty = 0
-value_in (EX/WB.Holds i o) = o.value.w0
+value_in None = 0
+value_in (Some (i, o)) = o.value.w0
 
 abbrev values_in : (Edition → Unit) → List (List ℕ)
 values_in unit = map (λ (edition : Edition). map (λ (c : ℕ). value_in (cycles_of c (unit edition)).executed) (2 ∷ 3 ∷ 4 ∷ 5 ∷ [])) (One ∷ Two ∷ [])

@@ -1,24 +1,23 @@
 -- Demand 3, which "counts from the last go, takes the registers as they stood then and holds until the next go or load": for every well-made unit, whatever it was doing before. Stated over what the calls
 -- promise (specs/Calls.antt), one after another (specs/Sequence.antt). A unit's file of registers is 32 long (`Whole`), as `[Register; 32]` is.
 -- Assumes nothing.
-use Rattle.unit_rules.proofs.Shared.{ℕ, suc, ◌+◌, ◌-◌, ◌≤◌, ◌<◌, min, ◌≡◌, refl, sym, ap, subst, ◌∙◌, ◌↔◌, Bool, true, false, cond, List, map, zero-add}
+use Rattle.unit_rules.proofs.Shared.{None, Some, ℕ, suc, ◌+◌, ◌-◌, ◌≤◌, ◌<◌, min, ◌≡◌, refl, sym, ap, subst, ◌∙◌, ◌↔◌, Bool, true, false, cond, List, map, zero-add}
 use Rattle.unit_rules.proofs.Shared.{le_refl, arith, lt-ltb, eqb-true, leb-true, leb-false, eqb, leb, get_or, take, length, get_or-take, take_all}
-use Rattle.unit_rules.proofs.Shared.EX/WB
 use Rattle.unit_rules.proofs.Shared.{length-take-le, Register, zero_register, row_of, DRAINED, STATE, BUSY, plain, plain_rows, registers_as_rows, Job}
 use Rattle.unit_rules.proofs.Shared.{read_of, Program, lines_of, Unit, instruction_at, after_ex, after_id, fetched_in, Cycled, cycles_of, in_decoded, in_executed, drained_of, last_of}
 use Rattle.unit_rules.proofs.Shared.{well_made_of, begun_of, gone_of, registers_set, load_of, go_of, cycled_of, ran_of, asked_drained, Whole, after_calls}
 use Rattle.unit_rules.proofs.Shared.{Call, unit_after_all, cycles_in_all, renews_in_all, unit_with, Edition, One, Two, is_wired, registers_loaded, false≢true}
 use Rattle.job_rules.proofs.Theorems.{register_0_read}
-use Rattle.plain_rules.specs.declared.ExecutedProgram.{ExecutedProgram}
+use Rattle.plain_rules.specs.Answer.{ExecutedProgram}
 use Rattle.plain_rules.specs.Machine.{outcome_on, marks_rows}
 use Rattle.plain_rules.specs.Answer.{answer_of, no_marks, execute_all_of}
 use Rattle.plain_rules.proofs.Refusals.{executed}
 use Rattle.plain_rules.proofs.Theorems.{marks_of_registers}
 use Rattle.plain_rules.proofs.Marks.{mark_of_line}
 use Rattle.table.proofs.Decided.{passes, ends, not_denied}
-use Rattle.unit_rules.specs.declared.Loaded.{Loaded}
-use Rattle.unit_rules.specs.declared.Gone.{Gone}
-use Rattle.unit_rules.specs.declared.Drained.{Drained}
+use Rattle.unit_rules.specs.Answers.{Loaded}
+use Rattle.unit_rules.specs.Answers.{Gone}
+use Rattle.unit_rules.specs.Answers.{Drained}
 use Rattle.unit_rules.specs.Sequence.Call.{go}
 use Rattle.unit_rules.specs.Cycle.{mark_in}
 use Rattle.unit_rules.specs.Settled.{settled_flight}
@@ -218,13 +217,13 @@ module _ (u : Unit) (whole : Whole u.registers) (made : well_made_of u ≡ true)
 
   -- After k + 3 cycles EX/WB holds line k, with what the plain machine makes of it on the registers that the lines before it leave.
   pub demand3_outcome : (k : ℕ) → k < n
-      → (after_calls (k + 3) gone).executed ≡ EX/WB.Holds (instruction_at u.program k) (outcome_on (λ r. r) (λ r. r) zero_register (get_or lines k 0) (plain u.program.edition (take k lines) u.registers))
+      → (after_calls (k + 3) gone).executed ≡ Some ((instruction_at u.program k), (outcome_on (λ r. r) (λ r. r) zero_register (get_or lines k 0) (plain u.program.edition (take k lines) u.registers)))
   demand3_outcome k h =
       let c : k + 3 - 2 ≡ suc k = omega arith in
       let m : k + 3 - 3 ≡ k = omega arith in
       ap (λ (v : Unit). v.executed) (demand3_unit (k + 3) (in_time n k h))
-      ∙ (λ i. after_ex EX/WB.Empty (after_id (fetched_in u.program (c i)) (plain u.program.edition (take (m i) lines) u.registers)))
-      ∙ rw (lt-ltb k n h) (ap (λ (w : ℕ). EX/WB.Holds (instruction_at u.program k) (outcome_on (λ r. r) (λ r. r) zero_register w (plain u.program.edition (take k lines) u.registers))) (sym (get_or-take n u.program.words k 0 h)))
+      ∙ (λ i. after_ex None (after_id (fetched_in u.program (c i)) (plain u.program.edition (take (m i) lines) u.registers)))
+      ∙ rw (lt-ltb k n h) (ap (λ (w : ℕ). Some ((instruction_at u.program k), (outcome_on (λ r. r) (λ r. r) zero_register w (plain u.program.edition (take k lines) u.registers)))) (sym (get_or-take n u.program.words k 0 h)))
 
   -- So its mark is the one that crate `plain` answers for that line.
   pub demand3_marks : (k : ℕ) → k < n → mark_in (after_calls (k + 3) gone).executed ≡ get_or answered.marks k 0

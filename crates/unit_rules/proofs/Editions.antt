@@ -1,14 +1,12 @@
 -- The unit in each edition. In the second register 0 is zero after every call, a write to it is dropped and not forwarded, and every read of it gives zero; the first is
 -- untouched. Carried by the laws of `Wired`, and by demand 3, which tells the latched values.
 -- Assumes nothing.
-use Rattle.unit_rules.proofs.Shared.{ℕ, ◌-◌, ◌≤◌, ◌≡◌, refl, sym, ap, ◌∙◌, Bool, true, false, false≢true, List, get_or, Register, zero_register, Edition, One, Two, Pointer}
+use Rattle.unit_rules.proofs.Shared.{None, Some, ℕ, ◌-◌, ◌≤◌, ◌≡◌, refl, sym, ap, ◌∙◌, Bool, true, false, false≢true, List, get_or, Register, zero_register, Edition, One, Two, Pointer}
 use Rattle.unit_rules.proofs.Shared.{rd_of, first_of, is_li, cleared_for, plain, take, Program, lines_of, unit_with, IfId, IdEx, Unit, instruction_of, fetched_in, after_wb, newest, newest_operands, operands_in}
 use Rattle.unit_rules.proofs.Shared.{after_id, last_of, well_made_of, fresh_of, go_of, registers_set, registers_loaded, Job, Whole, after_calls, Call, unit_after, unit_after_all}
-use Rattle.unit_rules.proofs.Shared.IF/ID
-use Rattle.unit_rules.proofs.Shared.ID/EX
 use Rattle.job_rules.proofs.Theorems.{held_zero}
 use Rattle.unit_rules.specs.declared.Instruction.{Instruction}
-use Rattle.unit_rules.specs.declared.Operands.{Operands}
+use Rattle.unit_rules.specs.Latches.{Operands}
 use Rattle.unit_rules.specs.Settled.{settled_flight}
 use Rattle.unit_rules.proofs.Wired.{newest_of_0, left_by_wb}
 use Rattle.unit_rules.proofs.WellMade.{well_made_says}
@@ -67,21 +65,21 @@ zero_after_all_calls calls second = register_0_zero (unit_after_all calls fresh_
 -- ---- every read of it gives zero
 
 -- what ID latched, of a latch that it filled from these registers
-latched_is : (z : IfId) (f : List Register) (i : Instruction) (o : Operands) → after_id z f ≡ ID/EX.Holds i o → o ≡ operands_in i f
-latched_is IF/ID.Empty f i o e = absurd (false≢true (sym (ap filled e)))
+latched_is : (z : IfId) (f : List Register) (i : Instruction) (o : Operands) → after_id z f ≡ Some (i, o) → o ≡ operands_in i f
+latched_is None f i o e = absurd (false≢true (sym (ap filled e)))
   where
     filled : IdEx → Bool
-    filled ID/EX.Empty = true
-    filled (ID/EX.Holds j x) = false
-latched_is (IF/ID.Holds j) f i o e = sym (ap operands e) ∙ ap (λ (k : Instruction). operands_in k f) (ap instruction e)
+    filled None = true
+    filled (Some (j, x)) = false
+latched_is (Some j) f i o e = sym (ap operands e) ∙ ap (λ (k : Instruction). operands_in k f) (ap instruction e)
   where
     operands : IdEx → Operands
-    operands ID/EX.Empty = o
-    operands (ID/EX.Holds k x) = x
+    operands None = o
+    operands (Some (k, x)) = x
 
     instruction : IdEx → Instruction
-    instruction ID/EX.Empty = i
-    instruction (ID/EX.Holds k x) = k
+    instruction None = i
+    instruction (Some (k, x)) = k
 
 -- the operands that EX works with, of a unit with this instruction and these values in ID/EX
 abbrev pub working : Unit → Instruction → Operands → Operands
@@ -90,7 +88,7 @@ working v i latched = newest_operands v.executed i latched
 -- From a go on, after c cycles: whatever is in EX, each operand that is register 0 is zero.
 pub reads_zero : (u : Unit) → Whole u.registers → well_made_of u ≡ true → u.program.edition ≡ Two → (c : ℕ) → c ≤ last_of u.program.n.0
     → (let v = after_calls c (go_of u).unit in
-    (i : Instruction) (o : Operands) → v.decoded ≡ ID/EX.Holds i o
+    (i : Instruction) (o : Operands) → v.decoded ≡ Some (i, o)
     → (i.first.0 ≡ 0 → (working v i o).first ≡ zero_register) × (i.second.0 ≡ 0 → (working v i o).second ≡ zero_register) × (i.third.0 ≡ 0 → (working v i o).third ≡ zero_register))
 reads_zero u whole made second c h i o e = (zeroed _ i.first o.first first, zeroed _ i.second o.second second_read, zeroed _ i.third o.third third)
   where

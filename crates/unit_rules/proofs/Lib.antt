@@ -9,6 +9,7 @@ pub mod AsPipeline
 pub mod Settled
 pub mod Loading
 pub mod Calls
+pub mod Said
 pub mod Theorems
 pub mod Demand3
 pub mod Editions

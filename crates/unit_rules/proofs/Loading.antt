@@ -10,7 +10,7 @@ use Rattle.unit_rules.proofs.Shared.{unit_with, Whole, Edition, One, Two, is_wir
 use Rattle.table.proofs.Decided.{stops, passes, ends, each, none_refused, denied, not_denied}
 use Rattle.job_rules.proofs.Pieces.{length_pieces}
 use Rattle.job_rules.proofs.Refusals.{accepted, read}
-use Rattle.unit_rules.specs.declared.Loaded.{Loaded}
+use Rattle.unit_rules.specs.Answers.{Loaded}
 use Rattle.unit_rules.specs.Settled.{settled_flight}
 use Rattle.unit_rules.proofs.WellMade.{WellMade, well_made_begun}
 use Rattle.unit_rules.proofs.Wired.{cleared_held}

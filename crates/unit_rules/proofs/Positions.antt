@@ -1,13 +1,11 @@
 -- Where count and latches stand, and when a unit is drained: of any record whose count and latches are where its cycle number puts them, whatever values
 -- are latched. Carried by the five places that a cycle number can have with regard to n.
 -- Assumes nothing.
-use Rattle.unit_rules.proofs.Shared.{ℕ, zero, suc, ◌+◌, ◌-◌, ◌≤◌, ◌<◌, min, ◌≡◌, refl, sym, ap, ◌∙◌, Bool, true, false, ◌&&◌, and-false, false≢true, List, add-one}
+use Rattle.unit_rules.proofs.Shared.{None, Some, ℕ, zero, suc, ◌+◌, ◌-◌, ◌≤◌, ◌<◌, min, ◌≡◌, refl, sym, ap, ◌∙◌, Bool, true, false, ◌&&◌, and-false, false≢true, List, add-one}
 use Rattle.unit_rules.proofs.Shared.{arith, lt-ltb, le-ltb, le-leb, lt-leb, leb-true, leb-false, ltb-true, ltb-false, eqb-true, eqb-false}
 use Rattle.unit_rules.proofs.Shared.{ne_eqb, eqb, ltb, leb, leb-zero, Register, IfId, IdEx, ExWb, Program, Unit, after_ex, after_id, after_if, Edition}
 use Rattle.unit_rules.proofs.Shared.{count_after, cycle_of, cycles_of, fetched_in, in_decoded, in_executed, is_empty, all_empty, drained_of, last_of, in_flight_of, unit_with, add-zero}
 use Rattle.alu_rules.proofs.Integers.{either}
-use Rattle.unit_rules.proofs.Shared.IF/ID
-use Rattle.unit_rules.proofs.Shared.ID/EX
 
 -- ---- what cycles leave alone
 
@@ -61,12 +59,12 @@ next_min n c =
     (λ h. let m : min c n ≡ n = omega arith in rw (m, le-ltb n n (omega arith)) (omega arith))
 
 pub id_keeps : (z : IfId) (f : List Register) → in_decoded (after_id z f) ≡ z
-id_keeps IF/ID.Empty f = refl
-id_keeps (IF/ID.Holds i) f = refl
+id_keeps None f = refl
+id_keeps (Some i) f = refl
 
 pub ex_keeps : (x : ExWb) (y : IdEx) → in_executed (after_ex x y) ≡ in_decoded y
-ex_keeps x ID/EX.Empty = refl
-ex_keeps x (ID/EX.Holds i o) = refl
+ex_keeps x None = refl
+ex_keeps x (Some (i, o)) = refl
 
 pub placed_cycle : (u : Unit) → Placed u → Placed (cycle_of u)
 unfolding cycle_of

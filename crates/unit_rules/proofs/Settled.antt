@@ -1,13 +1,10 @@
 -- When all that a unit's latches hold is told by its registers, and that the registers are then what the plain machine leaves, line by line. Carried by `held_on` and
 -- `settles` of crate `pipeline`.
 -- Assumes nothing.
-use Rattle.unit_rules.proofs.Shared.{ℕ, zero, suc, ◌+◌, ◌-◌, ◌≤◌, ◌<◌, min, ◌≡◌, refl, sym, ap, subst, ◌∙◌, Bool, true, false, cond, false≢true, List}
+use Rattle.unit_rules.proofs.Shared.{None, Some, ℕ, zero, suc, ◌+◌, ◌-◌, ◌≤◌, ◌<◌, min, ◌≡◌, refl, sym, ap, subst, ◌∙◌, Bool, true, false, cond, false≢true, List}
 use Rattle.unit_rules.proofs.Shared.{arith, ltb-true, ltb-false, ltb, get_or, take, drop, length, get_or-take, take_all, length-take-le, length-drop}
 use Rattle.unit_rules.proofs.Shared.{Register, step_on, plain_on, step, plain, one_more, IfId, IdEx, ExWb, Program, lines_of, Unit}
 use Rattle.unit_rules.proofs.Shared.{instruction_at, fetched_in, after_ex, after_id, cycles_of, in_decoded, in_executed, is_empty, gone_of, in_flight_of, unit_with, Whole}
-use Rattle.unit_rules.proofs.Shared.IF/ID
-use Rattle.unit_rules.proofs.Shared.ID/EX
-use Rattle.unit_rules.proofs.Shared.EX/WB
 use lib.Seq.{get_or-drop}
 use Rattle.pipeline.proofs.Stages.{Slot, Pipe, GoodIn, instr_in, executed, executed_all, cycled, cycled_all, behind, holding, done, held_on, settles}
 use Rattle.unit_rules.specs.declared.Instruction.{Instruction}
@@ -22,9 +19,9 @@ use Rattle.unit_rules.proofs.AsPipeline.{machine, Storable, lawful, slot_of, slo
 abbrev reaching : Program → ℕ → ℕ → Slot Instruction
 reaching p c k = slot_of (fetched_in p (c + k - 2))
 
-as_done : (z : IfId) (f : List Register) → slot_of_ex_wb (after_ex EX/WB.Empty (after_id z f)) ≡ done machine (slot_of z) f
-as_done IF/ID.Empty f = refl
-as_done (IF/ID.Holds i) f = refl
+as_done : (z : IfId) (f : List Register) → slot_of_ex_wb (after_ex None (after_id z f)) ≡ done machine (slot_of z) f
+as_done None f = refl
+as_done (Some i) f = refl
 
 settled_piped : (p : Program) (c : ℕ) (f : List Register)
     → pipe_with f (settled_flight p c f) ≡ holding machine f (slot_of (fetched_in p (c - 2))) (slot_of (fetched_in p (c - 1))) (slot_of (fetched_in p c))
@@ -38,7 +35,7 @@ pub id_told : (p : Program) (c : ℕ) (f : List Register) → in_decoded (settle
 id_told p c f = id_keeps (fetched_in p (c - 1)) f
 
 pub ex_told : (p : Program) (c : ℕ) (f : List Register) → in_executed (settled_flight p c f).executed ≡ fetched_in p (c - 2)
-ex_told p c f = ex_keeps EX/WB.Empty (after_id (fetched_in p (c - 2)) f) ∙ id_keeps (fetched_in p (c - 2)) f
+ex_told p c f = ex_keeps None (after_id (fetched_in p (c - 2)) f) ∙ id_keeps (fetched_in p (c - 2)) f
 
 settled_placed : (u : Unit) → Settled u → Placed u
 settled_placed u e = record {
@@ -125,7 +122,7 @@ module _ (p : Program) (enough : p.n.0 ≤ length p.words) (c : ℕ) (f : List R
       outside k at beyond = rw size (omega arith)
 
       line : (k : ℕ) → c + t - 2 ≡ suc k → (b : Bool) → ltb k p.n.0 ≡ b
-          → executed machine (slot_of (cond b (IF/ID.Holds (instruction_at p k)) IF/ID.Empty)) (completed t) ≡ completed (suc t)
+          → executed machine (slot_of (cond b (Some (instruction_at p k)) None)) (completed t) ≡ completed (suc t)
       line k q true l =
           let below = ltb-true k p.n.0 l in
           let at = many_at c t k q in
@@ -161,23 +158,23 @@ good_decoded : (u : Unit) → Placed u → GoodIn machine Storable (instr_in mac
 good_decoded u h = subst (GoodIn machine Storable) (sym (as_held u.decoded ∙ ap slot_of h.in_id_ex)) (good_fetched u.program (u.cycle - 1))
   where
     as_held : (y : IdEx) → instr_in machine (slot_of_id_ex y) ≡ slot_of (in_decoded y)
-    as_held ID/EX.Empty = refl
-    as_held (ID/EX.Holds i o) = refl
+    as_held None = refl
+    as_held (Some (i, o)) = refl
 
 -- from a go on
 pub gone_settled : (u : Unit) → Settled (gone_of u)
 gone_settled u =
     let none : 0 ≡ min 0 u.program.n.0 = omega arith in
-    λ i. record { count = record { 0 = none i }; fetched = IF/ID.Empty; decoded = ID/EX.Empty; executed = EX/WB.Empty }
+    λ i. record { count = record { 0 = none i }; fetched = None; decoded = None; executed = None }
 
 -- before cycle 2, since no value has been latched
-pub nothing_decoded : (y : IdEx) → in_decoded y ≡ IF/ID.Empty → y ≡ ID/EX.Empty
-nothing_decoded ID/EX.Empty e = refl
-nothing_decoded (ID/EX.Holds i o) e = absurd (false≢true (ap is_empty e))
+pub nothing_decoded : (y : IdEx) → in_decoded y ≡ None → y ≡ None
+nothing_decoded None e = refl
+nothing_decoded (Some (i, o)) e = absurd (false≢true (ap is_empty e))
 
-pub nothing_executed : (x : ExWb) → in_executed x ≡ IF/ID.Empty → x ≡ EX/WB.Empty
-nothing_executed EX/WB.Empty e = refl
-nothing_executed (EX/WB.Holds i o) e = absurd (false≢true (ap is_empty e))
+pub nothing_executed : (x : ExWb) → in_executed x ≡ None → x ≡ None
+nothing_executed None e = refl
+nothing_executed (Some (i, o)) e = absurd (false≢true (ap is_empty e))
 
 pub settled_early : (u : Unit) → Placed u → u.cycle < 2 → Settled u
 settled_early u h early =
@@ -186,7 +183,7 @@ settled_early u h early =
     let second : u.cycle - 2 ≡ 0 = omega arith in
     let decoded = nothing_decoded u.decoded (h.in_id_ex ∙ ap (fetched_in p) first) ∙ ap (λ (c : ℕ). after_id (fetched_in p c) u.registers) (sym first) in
     let executed = nothing_executed u.executed (h.in_ex_wb ∙ ap (fetched_in p) second)
-    ∙ ap (λ (c : ℕ). after_ex EX/WB.Empty (after_id (fetched_in p c) u.registers)) (sym second) in
+    ∙ ap (λ (c : ℕ). after_ex None (after_id (fetched_in p c) u.registers)) (sym second) in
     λ i. record { count = record { 0 = h.counted i }; fetched = h.in_if_id i; decoded = decoded i; executed = executed i }
 
 -- two cycles after any record whose count and latches are where its cycle number puts them, whatever values were latched

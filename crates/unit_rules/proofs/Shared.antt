@@ -18,8 +18,8 @@ pub use Rattle.register.specs.Layout.{zero_register, word_at, of_bytes, row_of}
 pub use Rattle.table.specs.declared.Edition.{Edition}
 pub use Rattle.table.specs.declared.Edition.TheVariants.{One, Two}
 pub use Rattle.table.specs.declared.Pointer.{Pointer}
-pub use Rattle.table.specs.declared.Target.{Target}
-pub use Rattle.table.specs.declared.Target.TheVariants.{None, To}
+pub use Rattle.std.specs.declared.option.Option.{Option}
+pub use Rattle.std.specs.declared.option.Option.TheVariants.{None, Some}
 pub use Rattle.table.specs.Fields.{rs2_of, rs3_of, rd_of, is_li, rs1_of}
 unfoldable pub use Rattle.table.specs.Fields.{first_of}
 pub use Rattle.table.specs.Operation.{reads_of, takes_first, takes_second, takes_third, is_nop, is_wired, Operation}
@@ -30,15 +30,15 @@ pub use Rattle.plain_rules.specs.Machine.{stored, cleared_for, step, plain, plai
 unfoldable pub use Rattle.plain_rules.specs.Machine.{step_on, plain_on}
 pub use Rattle.plain_rules.proofs.Theorems.{one_more, registers_as_rows}
 pub use Rattle.job_rules.specs.declared.Job.{Job}
-pub use Rattle.job_rules.specs.declared.ReadJob.{ReadJob}
+pub use Rattle.job_rules.specs.Read.{ReadJob}
 pub use Rattle.job_rules.specs.Layout.{instructions_at, edition_in, two_at, registers_at, words_in, registers_of, LARGEST}
 pub use Rattle.job_rules.specs.Read.{filled, job_of, read_of}
 unfoldable pub use Rattle.job_rules.specs.Read.{header_of, tested_of, body_of}
 pub use Rattle.job_rules.specs.declared.Program.{Program}
 pub use Rattle.job_rules.specs.Program.{lines_of, may_hold}
-pub use Rattle.unit_rules.specs.declared.IfId.{IfId}
-pub use Rattle.unit_rules.specs.declared.IdEx.{IdEx}
-pub use Rattle.unit_rules.specs.declared.ExWb.{ExWb}
+pub use Rattle.unit_rules.specs.Latches.{IfId}
+pub use Rattle.unit_rules.specs.Latches.{IdEx}
+pub use Rattle.unit_rules.specs.Latches.{ExWb}
 pub use Rattle.unit_rules.specs.declared.Unit.{Unit}
 pub use Rattle.unit_rules.specs.Cycle.{instruction_of, after_wb, is_target, newest_operands, operands_in, after_ex, after_id, after_if, read_by, newest}
 pub use Rattle.unit_rules.specs.Cycle.{instruction_at, given, count_after, fetched_in}
@@ -46,14 +46,12 @@ unfoldable pub use Rattle.unit_rules.specs.Cycle.{cycle_of, cycles_of}
 pub use Rattle.unit_rules.specs.Calls.{gone_of, registers_set, registers_loaded, loaded_of, loaded_by, fresh_of, begun_of}
 unfoldable pub use Rattle.unit_rules.specs.Calls.{load_of, go_of, cycled_of, ran_of, register_of, asked_drained, goes_on}
 pub use Rattle.unit_rules.specs.Sequence.{Whole, after_calls, Call, unit_after, made_unless, cycles_in, renews, unit_after_all, cycles_in_all, renews_in_all}
-pub use Rattle.unit_rules.specs.declared.Cycled.{Cycled}
-pub use Rattle.unit_rules.specs.declared.Ran.{Ran}
+pub use Rattle.unit_rules.specs.Answers.{Cycled}
+pub use Rattle.unit_rules.specs.Answers.{Ran}
 pub use Rattle.unit_rules.specs.Record.{last_of, in_decoded, in_executed, is_empty, same_target, same_instruction, same_held, numbers_made}
 pub use Rattle.unit_rules.specs.Record.{latches_made, all_empty, program_made, rest_made, run_made}
 unfoldable pub use Rattle.unit_rules.specs.Record.{drained_of, well_made_of}
 pub use Rattle.unit_rules.specs.Stages.{write_to, newest_by, executed_by, sources_of, read_at, decoded_with, delivered_of, in_flight_of, unit_with}
 pub use Rattle.unit_rules.specs.Stages.{advanced_of}
+pub use Rattle.unit_rules.specs.Stages.{stored_by}
 unfoldable pub use Rattle.unit_rules.specs.Stages.{write_of}
-pub use Rattle.unit_rules.specs.declared.ExWb.TheVariants as EX/WB
-pub use Rattle.unit_rules.specs.declared.IdEx.TheVariants as ID/EX
-pub use Rattle.unit_rules.specs.declared.IfId.TheVariants as IF/ID

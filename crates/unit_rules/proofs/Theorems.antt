@@ -1,20 +1,17 @@
 -- For the reader of specs/: what the test of a record says in either state, that every call leaves a well-made record and refuses with 10 one that is not, what leaves the registers
 -- as they are, and where a register's number ends.
 -- Assumes nothing.
-use Rattle.unit_rules.proofs.Shared.{ℕ, zero, suc, ◌+◌, ◌≤◌, ◌<◌, ◌≡◌, refl, sym, ap, subst, ◌∙◌, ◌↔◌, Bool, true, false, cond, not, ◌&&◌, ◌||◌, List}
+use Rattle.unit_rules.proofs.Shared.{None, ℕ, zero, suc, ◌+◌, ◌≤◌, ◌<◌, ◌≡◌, refl, sym, ap, subst, ◌∙◌, ◌↔◌, Bool, true, false, cond, not, ◌&&◌, ◌||◌, List}
 use Rattle.unit_rules.proofs.Shared.{arith, lt-ltb, le-ltb, leb-true, le-leb, eq-eqb, eqb-false, leb, eqb, get_or, length-replicate, Register, zero_register, STATE, DRAINED}
 use Rattle.unit_rules.proofs.Shared.{first_bad, lines_of, may_hold, IdEx, ExWb, Unit, Whole, in_decoded, in_executed, is_empty, all_empty, cycle_of}
 use Rattle.unit_rules.proofs.Shared.{Cycled, Ran, drained_of, well_made_of, fresh_of, load_of, go_of, cycled_of, goes_on, ran_of, register_of, asked_drained}
 use Rattle.unit_rules.proofs.Shared.{Call, unit_after, made_unless, cycles_in, renews, unit_after_all}
-use Rattle.unit_rules.proofs.Shared.IF/ID
-use Rattle.unit_rules.proofs.Shared.ID/EX
-use Rattle.unit_rules.proofs.Shared.EX/WB
 use Rattle.table.specs.Refusal.{POINTER}
 use Rattle.table.proofs.Decided.{stops, passes, ends, each, denied, not_denied}
-use Rattle.unit_rules.specs.declared.Loaded.{Loaded}
-use Rattle.unit_rules.specs.declared.Gone.{Gone}
-use Rattle.unit_rules.specs.declared.RegisterAnswer.{RegisterAnswer}
-use Rattle.unit_rules.specs.declared.Drained.{Drained}
+use Rattle.unit_rules.specs.Answers.{Loaded}
+use Rattle.unit_rules.specs.Answers.{Gone}
+use Rattle.unit_rules.specs.Answers.{RegisterAnswer}
+use Rattle.unit_rules.specs.Answers.{Drained}
 use Rattle.unit_rules.specs.Sequence.Call.{load, go, cycle, row, run, register, drained}
 use Rattle.table.proofs.Rows.{all_alike}
 use Rattle.unit_rules.proofs.Positions.{drained_loaded}
@@ -72,7 +69,7 @@ fresh_registers = (
 )
 
 abbrev NothingHeld : Unit → Type 0
-NothingHeld u = (u.fetched ≡ IF/ID.Empty) × (u.decoded ≡ ID/EX.Empty) × (u.executed ≡ EX/WB.Empty)
+NothingHeld u = (u.fetched ≡ None) × (u.decoded ≡ None) × (u.executed ≡ None)
 
 nothing_held : (u : Unit) → (all_empty u.fetched (in_decoded u.decoded) (in_executed u.executed) ≡ true) ↔ NothingHeld u
 nothing_held u = (

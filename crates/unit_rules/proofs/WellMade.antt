@@ -1,11 +1,10 @@
 -- A well-made record, in the documents' words as equations, and the test of it. Carried by the laws of `Positions`; the comparison of latches is equality.
 -- Assumes nothing.
 use mathlib.Core.Bool.{and-eq-true_iff}
-use Rattle.unit_rules.proofs.Shared.{ℕ, zero, suc, ◌+◌, ◌-◌, ◌≤◌, ◌<◌, min, ◌≡◌, refl, sym, ap, ◌∙◌, Bool, true, false, cond, ◌&&◌, false≢true}
-use Rattle.unit_rules.proofs.Shared.{add-zero, add-suc, arith, le-leb, leb-true, leb-false, eqb-true, eq-eqb, eqb, leb, Target, None, To}
+use Rattle.unit_rules.proofs.Shared.{Pointer, ℕ, zero, suc, ◌+◌, ◌-◌, ◌≤◌, ◌<◌, min, ◌≡◌, refl, sym, ap, ◌∙◌, Bool, true, false, cond, ◌&&◌, false≢true}
+use Rattle.unit_rules.proofs.Shared.{add-zero, add-suc, arith, le-leb, leb-true, leb-false, eqb-true, eq-eqb, eqb, leb, Option, None, Some}
 use Rattle.unit_rules.proofs.Shared.{get_or, zero_register, may_hold, first_bad, List, Register, Program, lines_of, IfId, Unit, fetched_in, cycle_of, cycles_of, in_decoded, in_executed, is_empty, all_empty, drained_of, last_of}
 use Rattle.unit_rules.proofs.Shared.{same_target, same_instruction, same_held, program_made, numbers_made, run_made, rest_made, well_made_of, begun_of, goes_on}
-use Rattle.unit_rules.proofs.Shared.IF/ID
 use Rattle.unit_rules.specs.declared.Instruction.{Instruction}
 use Rattle.unit_rules.proofs.Wired.{cycles_held}
 use Rattle.unit_rules.proofs.Positions.{Placed, placed_cycle, placed_cycles, drained_is, cycles_program, cycles_number, cycles_gone, gone_unless}
@@ -29,15 +28,15 @@ both a b e = (and-eq-true_iff a b).0 e
 and_true : {a b : Bool} → a ≡ true → b ≡ true → (a && b) ≡ true
 and_true e f = rw (e, f)
 
-same_target_lem : (a b : Target) → same_target a b ≡ true → a ≡ b
+same_target_lem : (a b : Option Pointer) → same_target a b ≡ true → a ≡ b
 same_target_lem None None e = refl
-same_target_lem None (To q) e = absurd (false≢true e)
-same_target_lem (To p) None e = absurd (false≢true e)
-same_target_lem (To p) (To q) e = ap (λ (k : ℕ). To (record { 0 = k })) (eqb-true p.0 q.0 e)
+same_target_lem None (Some q) e = absurd (false≢true e)
+same_target_lem (Some p) None e = absurd (false≢true e)
+same_target_lem (Some p) (Some q) e = ap (λ (k : ℕ). Some (record { 0 = k })) (eqb-true p.0 q.0 e)
 
-target_itself : (a : Target) → same_target a a ≡ true
+target_itself : (a : Option Pointer) → same_target a a ≡ true
 target_itself None = refl
-target_itself (To p) = eq-eqb p.0 p.0 refl
+target_itself (Some p) = eq-eqb p.0 p.0 refl
 
 same_instruction_lem : (i j : Instruction) → same_instruction i j ≡ true → i ≡ j
 same_instruction_lem i j e =
@@ -58,23 +57,23 @@ instruction_itself i =
     (target_itself i.target)
 
 same_held_lem : (x y : IfId) → same_held x y ≡ true → x ≡ y
-same_held_lem IF/ID.Empty IF/ID.Empty e = refl
-same_held_lem IF/ID.Empty (IF/ID.Holds j) e = absurd (false≢true e)
-same_held_lem (IF/ID.Holds i) IF/ID.Empty e = absurd (false≢true e)
-same_held_lem (IF/ID.Holds i) (IF/ID.Holds j) e = ap IF/ID.Holds (same_instruction_lem i j e)
+same_held_lem None None e = refl
+same_held_lem None (Some j) e = absurd (false≢true e)
+same_held_lem (Some i) None e = absurd (false≢true e)
+same_held_lem (Some i) (Some j) e = ap Some (same_instruction_lem i j e)
 
 held_same : {x y : IfId} → x ≡ y → same_held x y ≡ true
 held_same {x} {y} e = sym (ap (same_held x) e) ∙ itself x
   where
     itself : (z : IfId) → same_held z z ≡ true
-    itself IF/ID.Empty = refl
-    itself (IF/ID.Holds i) = instruction_itself i
+    itself None = refl
+    itself (Some i) = instruction_itself i
 
 -- ---- the test says what the documents say
 
-pub empty_held : (x : IfId) → is_empty x ≡ true → x ≡ IF/ID.Empty
-empty_held IF/ID.Empty e = refl
-empty_held (IF/ID.Holds i) e = absurd (false≢true e)
+pub empty_held : (x : IfId) → is_empty x ≡ true → x ≡ None
+empty_held None e = refl
+empty_held (Some i) e = absurd (false≢true e)
 
 module _ (u : Unit) where
   abbrev n : ℕ

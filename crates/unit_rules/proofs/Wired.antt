@@ -1,12 +1,10 @@
 -- Register 0 where a program's edition wires it: what is latched behind EX never names it as a target, so that a cycle leaves it. Carried by `never_to_0` of
 -- plain_rules.
 -- Assumes nothing.
-use Rattle.unit_rules.proofs.Shared.{ℕ, zero, suc, ◌-◌, ◌≡◌, refl, sym, ap, ◌∙◌, Bool, true, false, cond, and-false, false≢true, List, [], ◌∷◌, map}
-use Rattle.unit_rules.proofs.Shared.{ltb, get_or, Register, zero_register, row_of, Edition, One, Two, Pointer, Target, target_of}
+use Rattle.unit_rules.proofs.Shared.{None, Some, ℕ, zero, suc, ◌-◌, ◌≡◌, refl, sym, ap, ◌∙◌, Bool, true, false, cond, and-false, false≢true, List, [], ◌∷◌, map}
+use Rattle.unit_rules.proofs.Shared.{ltb, get_or, Register, zero_register, row_of, Edition, One, Two, Pointer, Option, target_of}
 use Rattle.unit_rules.proofs.Shared.{stored, cleared_for, cleared_rows, Program, may_hold, IfId, ExWb, Unit, instruction_at, fetched_in, after_wb, is_target, newest, cycle_of, cycles_of}
 use Rattle.unit_rules.proofs.Shared.{in_executed, is_empty}
-use Rattle.unit_rules.proofs.Shared.IF/ID
-use Rattle.unit_rules.proofs.Shared.EX/WB
 use Rattle.table.proofs.Theorems.{each_target}
 use Rattle.job_rules.proofs.Theorems.{held_zero}
 use Rattle.plain_rules.proofs.Editions.{never_to_0}
@@ -16,24 +14,24 @@ use Rattle.unit_rules.proofs.Positions.{Placed, placed_cycles, cycles_program}
 -- ---- the target of what was fetched
 
 -- what was fetched in some cycle is a line of the program
-pub fetched_line : (p : Program) (c : ℕ) (i : Instruction) → IF/ID.Holds i ≡ fetched_in p c → (k : ℕ) × (i ≡ instruction_at p k)
+pub fetched_line : (p : Program) (c : ℕ) (i : Instruction) → Some i ≡ fetched_in p c → (k : ℕ) × (i ≡ instruction_at p k)
 fetched_line p zero i e = absurd (false≢true (ap is_empty e))
 fetched_line p (suc k) i e = go (ltb k p.n.0) e
   where
     held : IfId → Instruction
-    held IF/ID.Empty = i
-    held (IF/ID.Holds j) = j
+    held None = i
+    held (Some j) = j
 
-    go : (t : Bool) → IF/ID.Holds i ≡ cond t (IF/ID.Holds (instruction_at p k)) IF/ID.Empty → (m : ℕ) × (i ≡ instruction_at p m)
+    go : (t : Bool) → Some i ≡ cond t (Some (instruction_at p k)) None → (m : ℕ) × (i ≡ instruction_at p m)
     go true q = (k, ap held q)
     go false q = absurd (false≢true (ap is_empty q))
 
 -- and in the second edition its target is not register 0
 not_the_target : (w : ℕ) (q : Pointer) → q.0 ≡ 0 → is_target (target_of Two w) q ≡ false
-not_the_target w q e = each_target (λ (t : Target). is_target t q ≡ false) Two w refl (λ free. rw e free)
+not_the_target w q e = each_target (λ (t : Option Pointer). is_target t q ≡ false) Two w refl (λ free. rw e free)
 
 module _ (p : Program) (second : p.edition ≡ Two) (c : ℕ) where
-  pub not_0 : (i : Instruction) → IF/ID.Holds i ≡ fetched_in p c → (q : Pointer) → q.0 ≡ 0 → is_target i.target q ≡ false
+  pub not_0 : (i : Instruction) → Some i ≡ fetched_in p c → (q : Pointer) → q.0 ≡ 0 → is_target i.target q ≡ false
   not_0 i e q z =
       let line = fetched_line p c i e in
       ap (λ (j : Instruction). is_target j.target q) line.1
@@ -42,13 +40,13 @@ module _ (p : Program) (second : p.edition ≡ Two) (c : ℕ) where
 
   -- so EX takes nothing for it from WB
   pub newest_of_0 : (x : ExWb) → in_executed x ≡ fetched_in p c → (reads : Bool) (q : Pointer) → q.0 ≡ 0 → (latched : Register) → newest x reads q latched ≡ latched
-  newest_of_0 EX/WB.Empty e reads q z latched = refl
-  newest_of_0 (EX/WB.Holds i o) e reads q z latched = rw (not_0 i e q z, and-false reads)
+  newest_of_0 None e reads q z latched = refl
+  newest_of_0 (Some (i, o)) e reads q z latched = rw (not_0 i e q z, and-false reads)
 
   -- and WB leaves it as it was
   pub left_by_wb : (x : ExWb) → in_executed x ≡ fetched_in p c → (f : List Register) → get_or (after_wb x f) 0 zero_register ≡ get_or f 0 zero_register
-  left_by_wb EX/WB.Empty e f = refl
-  left_by_wb (EX/WB.Holds i o) e f =
+  left_by_wb None e f = refl
+  left_by_wb (Some (i, o)) e f =
       let line = fetched_line p c i e in
       ap (λ (j : Instruction). get_or (stored j.target o.value f) 0 zero_register) line.1
       ∙ ap (λ (edition : Edition). get_or (stored (target_of edition (get_or p.words line.0 0)) o.value f) 0 zero_register) second

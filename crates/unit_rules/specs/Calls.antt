@@ -9,18 +9,16 @@ use Rattle.table.specs.Refusal.{POINTER, DRAINED, STATE, BUSY}
 use Rattle.plain_rules.specs.Machine.{cleared_for}
 use Rattle.job_rules.specs.declared.Job.{Job}
 use Rattle.job_rules.specs.declared.Program.{Program}
-use Rattle.job_rules.specs.declared.ReadJob.{ReadJob}
+use Rattle.job_rules.specs.Read.{ReadJob}
 use Rattle.job_rules.specs.Read.{read_of}
-use Rattle.unit_rules.specs.declared.IfId.TheVariants as IF/ID
-use Rattle.unit_rules.specs.declared.IdEx.TheVariants as ID/EX
-use Rattle.unit_rules.specs.declared.ExWb.TheVariants as EX/WB
+use Rattle.std.specs.declared.option.Option.TheVariants.{None}
 use Rattle.unit_rules.specs.declared.Unit.{Unit}
-use Rattle.unit_rules.specs.declared.Loaded.{Loaded}
-use Rattle.unit_rules.specs.declared.Gone.{Gone}
-use Rattle.unit_rules.specs.declared.Cycled.{Cycled}
-use Rattle.unit_rules.specs.declared.Ran.{Ran}
-use Rattle.unit_rules.specs.declared.RegisterAnswer.{RegisterAnswer}
-use Rattle.unit_rules.specs.declared.Drained.{Drained}
+use Rattle.unit_rules.specs.Answers.{Loaded}
+use Rattle.unit_rules.specs.Answers.{Gone}
+use Rattle.unit_rules.specs.Answers.{Cycled}
+use Rattle.unit_rules.specs.Answers.{Ran}
+use Rattle.unit_rules.specs.Answers.{RegisterAnswer}
+use Rattle.unit_rules.specs.Answers.{Drained}
 use Rattle.unit_rules.specs.Cycle.{cycle_of}
 use Rattle.unit_rules.specs.Record.{drained_of, well_made_of}
 
@@ -31,9 +29,9 @@ begun_of gone program registers = record {
   count = record { 0 = 0 };
   cycle = 0;
   registers = registers;
-  fetched = IF/ID.Empty;
-  decoded = ID/EX.Empty;
-  executed = EX/WB.Empty;
+  fetched = None;
+  decoded = None;
+  executed = None;
   gone = gone;
 }
 

@@ -6,8 +6,8 @@ use Rattle.register.specs.Layout.{zero_register}
 use Rattle.table.specs.declared.Edition.{Edition}
 use Rattle.table.specs.declared.Pointer.{Pointer}
 use Rattle.table.specs.declared.Reads.{Reads}
-use Rattle.table.specs.declared.Target.{Target}
-use Rattle.table.specs.declared.Target.TheVariants.{None, To}
+use Rattle.std.specs.declared.option.Option.{Option}
+use Rattle.std.specs.declared.option.Option.TheVariants.{None, Some}
 use Rattle.table.specs.Fields.{first_of, rs2_of, rs3_of}
 use Rattle.table.specs.Operation.{operation_of, reads_of, takes_first, takes_second, takes_third, target_of}
 use Rattle.alu_rules.specs.declared.Outcome.{Outcome}
@@ -15,13 +15,10 @@ use Rattle.alu_rules.specs.Result.{outcome_of}
 use Rattle.plain_rules.specs.Machine.{stored}
 use Rattle.job_rules.specs.declared.Program.{Program}
 use Rattle.unit_rules.specs.declared.Instruction.{Instruction}
-use Rattle.unit_rules.specs.declared.Operands.{Operands}
-use Rattle.unit_rules.specs.declared.IfId.{IfId}
-use Rattle.unit_rules.specs.declared.IfId.TheVariants as IF/ID
-use Rattle.unit_rules.specs.declared.IdEx.{IdEx}
-use Rattle.unit_rules.specs.declared.IdEx.TheVariants as ID/EX
-use Rattle.unit_rules.specs.declared.ExWb.{ExWb}
-use Rattle.unit_rules.specs.declared.ExWb.TheVariants as EX/WB
+use Rattle.unit_rules.specs.Latches.{Operands}
+use Rattle.unit_rules.specs.Latches.{IfId}
+use Rattle.unit_rules.specs.Latches.{IdEx}
+use Rattle.unit_rules.specs.Latches.{ExWb}
 use Rattle.unit_rules.specs.declared.Unit.{Unit}
 
 -- the instruction of a word, on a card of this edition
@@ -34,17 +31,17 @@ instruction_at program k = instruction_of program.edition (get_or program.words 
 
 -- "1. WB writes its value to rd, unless it is empty or holds a NOP."
 abbrev pub after_wb : ExWb → List Register → List Register
-after_wb EX/WB.Empty f = f
-after_wb (EX/WB.Holds i o) f = stored i.target o.value f
+after_wb None f = f
+after_wb (Some (i, o)) f = stored i.target o.value f
 
 -- "Where WB writes a register that this instruction reads, WB's value takes the place of the latched one."
-abbrev pub is_target : Target → Pointer → Bool
+abbrev pub is_target : Option Pointer → Pointer → Bool
 is_target None p = false
-is_target (To d) p = eqb d.0 p.0
+is_target (Some d) p = eqb d.0 p.0
 
 abbrev pub newest : ExWb → Bool → Pointer → Register → Register
-newest EX/WB.Empty reads p latched = latched
-newest (EX/WB.Holds i o) reads p latched = cond (reads && is_target i.target p) o.value latched
+newest None reads p latched = latched
+newest (Some (i, o)) reads p latched = cond (reads && is_target i.target p) o.value latched
 
 -- the fields that an instruction reads, "by the table"
 abbrev pub read_by : Instruction → Reads
@@ -62,17 +59,17 @@ abbrev pub given : Instruction → Operands → Outcome
 given i o = outcome_of i.word o.first o.second o.third
 
 abbrev pub worked : Instruction → Operands → ExWb
-worked i o = EX/WB.Holds i (given i o)
+worked i o = Some (i, (given i o))
 
 -- the mark that a latch holds, 0 where it is empty
 abbrev pub mark_in : ExWb → ℕ
-mark_in EX/WB.Empty = 0
-mark_in (EX/WB.Holds i o) = o.mark
+mark_in None = 0
+mark_in (Some (i, o)) = o.mark
 
 -- "2. EX works with the values latched in ID."
 abbrev pub after_ex : ExWb → IdEx → ExWb
-after_ex wb ID/EX.Empty = EX/WB.Empty
-after_ex wb (ID/EX.Holds i o) = worked i (newest_operands wb i o)
+after_ex wb None = None
+after_ex wb (Some (i, o)) = worked i (newest_operands wb i o)
 
 -- "3. ID reads the register file after WB's write of this cycle."
 abbrev pub operands_in : Instruction → List Register → Operands
@@ -83,12 +80,12 @@ operands_in i f = record {
 }
 
 abbrev pub after_id : IfId → List Register → IdEx
-after_id IF/ID.Empty f = ID/EX.Empty
-after_id (IF/ID.Holds i) f = ID/EX.Holds i (operands_in i f)
+after_id None f = None
+after_id (Some i) f = Some (i, (operands_in i f))
 
 -- "4. IF fetches at the program count and adds one. At count n or above it delivers nothing, and the count stays."
 abbrev pub after_if : Program → ℕ → IfId
-after_if program k = cond (ltb k program.n.0) (IF/ID.Holds (instruction_at program k)) IF/ID.Empty
+after_if program k = cond (ltb k program.n.0) (Some (instruction_at program k)) None
 
 abbrev pub count_after : ℕ → ℕ → ℕ
 count_after n k = cond (ltb k n) (k + 1) k
@@ -107,7 +104,7 @@ cycle_of u = record {
 
 -- what IF delivers in cycle c since a go: "in cycle c, counted from 1 at the start," instruction c-1 "(from 0), or nothing outside 0 .. n-1"
 abbrev pub fetched_in : Program → ℕ → IfId
-fetched_in program zero = IF/ID.Empty
+fetched_in program zero = None
 fetched_in program (suc k) = after_if program k
 
 -- so many cycles, one after another

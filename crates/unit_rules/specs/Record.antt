@@ -1,34 +1,32 @@
 -- When a unit is drained, and when its record is well made.
 -- Assumes nothing.
+use Rattle.table.specs.declared.Pointer.{Pointer}
 use Rattle.std.specs.Prelude.{ℕ, ◌+◌, ◌-◌, min, Bool, true, false, cond, not, ◌&&◌, ◌||◌, eqb, leb, get_or}
 use Rattle.register.specs.Layout.{zero_register}
-use Rattle.table.specs.declared.Target.{Target}
-use Rattle.table.specs.declared.Target.TheVariants.{None, To}
+use Rattle.std.specs.declared.option.Option.{Option}
+use Rattle.std.specs.declared.option.Option.TheVariants.{None, Some}
 use Rattle.table.specs.Refusal.{first_bad}
 use Rattle.job_rules.specs.declared.Program.{Program}
 use Rattle.job_rules.specs.Program.{lines_of, may_hold}
 use Rattle.unit_rules.specs.declared.Instruction.{Instruction}
-use Rattle.unit_rules.specs.declared.IfId.{IfId}
-use Rattle.unit_rules.specs.declared.IfId.TheVariants as IF/ID
-use Rattle.unit_rules.specs.declared.IdEx.{IdEx}
-use Rattle.unit_rules.specs.declared.IdEx.TheVariants as ID/EX
-use Rattle.unit_rules.specs.declared.ExWb.{ExWb}
-use Rattle.unit_rules.specs.declared.ExWb.TheVariants as EX/WB
+use Rattle.unit_rules.specs.Latches.{IfId}
+use Rattle.unit_rules.specs.Latches.{IdEx}
+use Rattle.unit_rules.specs.Latches.{ExWb}
 use Rattle.unit_rules.specs.declared.Unit.{Unit}
 use Rattle.unit_rules.specs.Cycle.{fetched_in}
 
 -- the instruction that a latch holds, or nothing, without its values
 abbrev pub in_decoded : IdEx → IfId
-in_decoded ID/EX.Empty = IF/ID.Empty
-in_decoded (ID/EX.Holds i o) = IF/ID.Holds i
+in_decoded None = None
+in_decoded (Some (i, o)) = Some i
 
 abbrev pub in_executed : ExWb → IfId
-in_executed EX/WB.Empty = IF/ID.Empty
-in_executed (EX/WB.Holds i o) = IF/ID.Holds i
+in_executed None = None
+in_executed (Some (i, o)) = Some i
 
 abbrev pub is_empty : IfId → Bool
-is_empty IF/ID.Empty = true
-is_empty (IF/ID.Holds i) = false
+is_empty None = true
+is_empty (Some i) = false
 
 -- "all latches are empty"
 abbrev pub all_empty : IfId → IfId → IfId → Bool
@@ -44,11 +42,11 @@ abbrev pub last_of : ℕ → ℕ
 last_of n = cond (eqb n 0) 0 (n + 3)
 
 -- the same instruction, the word and all that a latch says of it
-abbrev pub same_target : Target → Target → Bool
+abbrev pub same_target : Option Pointer → Option Pointer → Bool
 same_target None None = true
-same_target None (To q) = false
-same_target (To p) None = false
-same_target (To p) (To q) = eqb p.0 q.0
+same_target None (Some q) = false
+same_target (Some p) None = false
+same_target (Some p) (Some q) = eqb p.0 q.0
 
 abbrev pub same_instruction : Instruction → Instruction → Bool
 same_instruction i j =
@@ -57,10 +55,10 @@ same_instruction i j =
     && same_target i.target j.target
 
 abbrev pub same_held : IfId → IfId → Bool
-same_held IF/ID.Empty IF/ID.Empty = true
-same_held IF/ID.Empty (IF/ID.Holds j) = false
-same_held (IF/ID.Holds i) IF/ID.Empty = false
-same_held (IF/ID.Holds i) (IF/ID.Holds j) = same_instruction i j
+same_held None None = true
+same_held None (Some j) = false
+same_held (Some i) None = false
+same_held (Some i) (Some j) = same_instruction i j
 
 -- "n is at most 64, its n words are below 2^25"
 abbrev pub program_made : Program → Bool

@@ -4,7 +4,7 @@
 use Rattle.std.specs.Prelude.{ℕ, ◌-◌, min, ◌≡◌, List}
 use Rattle.register.specs.declared.Register.{Register}
 use Rattle.job_rules.specs.declared.Program.{Program}
-use Rattle.unit_rules.specs.declared.ExWb.TheVariants as EX/WB
+use Rattle.std.specs.declared.option.Option.TheVariants.{None}
 use Rattle.unit_rules.specs.declared.InFlight.{InFlight}
 use Rattle.unit_rules.specs.declared.Unit.{Unit}
 use Rattle.unit_rules.specs.Cycle.{after_ex, after_id, fetched_in}
@@ -16,7 +16,7 @@ settled_flight program c f = record {
   count = record { 0 = min c program.n.0 };
   fetched = fetched_in program c;
   decoded = after_id (fetched_in program (c - 1)) f;
-  executed = after_ex EX/WB.Empty (after_id (fetched_in program (c - 2)) f);
+  executed = after_ex None (after_id (fetched_in program (c - 2)) f);
 }
 
 -- a unit in which it is so

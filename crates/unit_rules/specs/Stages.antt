@@ -1,41 +1,44 @@
 -- The stages of "One cycle" as functions on latches and single registers, so that no register file and no program is handed on once a cycle. That they are
 -- those of "One cycle" is in proofs/OneCycle.antt.
 -- Assumes nothing.
-use Rattle.std.specs.Prelude.{ℕ, ◌+◌, Bool, true, false, cond, ◌&&◌, List, eqb, ltb, get_or}
+use Rattle.std.specs.Prelude.{ℕ, ◌+◌, ◌%◌, Bool, cond, ◌&&◌, List, eqb, ltb, get_or, set}
 use Rattle.register.specs.declared.Register.{Register}
 use Rattle.register.specs.Layout.{zero_register}
 use Rattle.table.specs.declared.Count.{Count}
 use Rattle.table.specs.declared.Edition.{Edition}
 use Rattle.table.specs.declared.Pointer.{Pointer}
-use Rattle.table.specs.declared.Target.{Target}
-use Rattle.table.specs.declared.Target.TheVariants.{None, To}
+use Rattle.std.specs.declared.option.Option.{Option}
+use Rattle.std.specs.declared.option.Option.TheVariants.{None, Some}
 use Rattle.table.specs.Operation.{takes_first, takes_second, takes_third}
+use Rattle.job_rules.specs.declared.Program.{Program}
 use Rattle.unit_rules.specs.declared.Instruction.{Instruction}
-use Rattle.unit_rules.specs.declared.Operands.{Operands}
-use Rattle.unit_rules.specs.declared.IfId.{IfId}
-use Rattle.unit_rules.specs.declared.IfId.TheVariants as IF/ID
-use Rattle.unit_rules.specs.declared.IdEx.{IdEx}
-use Rattle.unit_rules.specs.declared.IdEx.TheVariants as ID/EX
-use Rattle.unit_rules.specs.declared.ExWb.{ExWb}
-use Rattle.unit_rules.specs.declared.ExWb.TheVariants as EX/WB
+use Rattle.unit_rules.specs.Latches.{Operands}
+use Rattle.unit_rules.specs.Latches.{IfId}
+use Rattle.unit_rules.specs.Latches.{IdEx}
+use Rattle.unit_rules.specs.Latches.{ExWb}
 use Rattle.unit_rules.specs.declared.Unit.{Unit}
 use Rattle.unit_rules.specs.declared.InFlight.{InFlight}
-use Rattle.unit_rules.specs.declared.Write.{Write}
-use Rattle.unit_rules.specs.declared.Sources.{Sources}
+use Rattle.unit_rules.specs.Latches.{Write}
+use Rattle.unit_rules.specs.Latches.{Sources}
 use Rattle.unit_rules.specs.Cycle.{instruction_of, read_by, worked, count_after}
 
--- 1. WB: what it writes in a cycle, as one value: whether it writes, where and what
-abbrev pub write_to : Target → Register → Write
-write_to None v = record { writes = false; at = record { 0 = 0 }; value = v }
-write_to (To p) v = record { writes = true; at = p; value = v }
+-- 1. WB: what it writes in a cycle, if anything: where and what
+abbrev pub write_to : Option Pointer → Register → Write
+write_to None v = None
+write_to (Some p) v = Some (p, v)
 
 abbrev pub write_of : ExWb → Write
-write_of EX/WB.Empty = write_to None zero_register
-write_of (EX/WB.Holds i o) = write_to i.target o.value
+write_of None = None
+write_of (Some (i, o)) = write_to i.target o.value
+
+abbrev pub stored_by : Write → List Register → List Register
+stored_by None f = f
+stored_by (Some (at, v)) f = set f at.0 v
 
 -- 2. EX, with what WB writes
 abbrev pub newest_by : Bool → Write → Pointer → Register → Register
-newest_by reads w p latched = cond (reads && (w.writes && eqb w.at.0 p.0)) w.value latched
+newest_by reads None p latched = latched
+newest_by reads (Some (at, v)) p latched = cond (reads && eqb at.0 p.0) v latched
 
 abbrev pub newest_operands_by : Write → Instruction → Operands → Operands
 newest_operands_by w i o = record {
@@ -45,13 +48,13 @@ newest_operands_by w i o = record {
 }
 
 abbrev pub executed_by : Write → IdEx → ExWb
-executed_by w ID/EX.Empty = EX/WB.Empty
-executed_by w (ID/EX.Holds i o) = worked i (newest_operands_by w i o)
+executed_by w None = None
+executed_by w (Some (i, o)) = worked i (newest_operands_by w i o)
 
 -- 3. ID: where it reads, what it reads there, and what it latches
 abbrev pub sources_of : IfId → Sources
-sources_of IF/ID.Empty = record { first = record { 0 = 0 }; second = record { 0 = 0 }; third = record { 0 = 0 } }
-sources_of (IF/ID.Holds i) = record { first = i.first; second = i.second; third = i.third }
+sources_of None = record { first = record { 0 = 0 }; second = record { 0 = 0 }; third = record { 0 = 0 } }
+sources_of (Some i) = record { first = i.first; second = i.second; third = i.third }
 
 abbrev pub read_at : Sources → List Register → Operands
 read_at s f = record {
@@ -61,12 +64,12 @@ read_at s f = record {
 }
 
 abbrev pub decoded_with : IfId → Operands → IdEx
-decoded_with IF/ID.Empty o = ID/EX.Empty
-decoded_with (IF/ID.Holds i) o = ID/EX.Holds i o
+decoded_with None o = None
+decoded_with (Some i) o = Some (i, o)
 
 -- 4. IF, with the word at the count
 abbrev pub delivered_of : Edition → Count → Count → ℕ → IfId
-delivered_of edition n k w = cond (ltb k.0 n.0) (IF/ID.Holds (instruction_of edition w)) IF/ID.Empty
+delivered_of edition n k w = cond (ltb k.0 n.0) (Some (instruction_of edition w)) None
 
 abbrev pub next_count : Count → Count → Count
 next_count n k = record { 0 = count_after n.0 k.0 }
@@ -96,3 +99,10 @@ advanced_of edition n l w o word = record {
   decoded = decoded_with l.fetched o;
   executed = executed_by w l.decoded;
 }
+
+-- one cycle of a program, but for its number: the registers after WB's write, and what is in flight afterwards; a count below 64 is its own remainder
+abbrev pub turned_of : Program → List Register → InFlight → List Register × InFlight
+turned_of program f l =
+    let w : Write = write_of l.executed in
+    let g : List Register = stored_by w f in
+    (g, advanced_of program.edition program.n l w (read_at (sources_of l.fetched) g) (get_or program.words (l.count.0 % 64) 0))

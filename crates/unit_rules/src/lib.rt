@@ -6,52 +6,41 @@
 use alu_rules::Outcome;
 use job_rules::Program;
 use register::Register;
-use table::{Count, Pointer, Target};
+use table::refusal::Refusal;
+use table::{Count, Pointer};
 
 // An instruction as it goes through decode and latches: its word, the registers of its operands and the register that it writes, or none.
-#[derive(Clone, Copy)]
+#[derive(Clone, Copy, PartialEq, Eq)]
 pub struct Instruction {
     pub word: u32,
     pub first: Pointer,
     pub second: Pointer,
     pub third: Pointer,
-    pub target: Target,
+    pub target: Option<Pointer>,
 }
+
+// Something for each operand of an instruction; li's first operand is its rd.
+#[derive(Clone, Copy)]
+pub struct ForOperands<T> {
+    pub first: T,
+    pub second: T,
+    pub third: T,
+}
+
+// The registers that ID reads in a cycle.
+pub type Sources = ForOperands<Pointer>;
 
 // The values that ID has read.
-#[derive(Clone, Copy)]
-pub struct Operands {
-    pub first: Register,
-    pub second: Register,
-    pub third: Register,
-}
+pub type Operands = ForOperands<Register>;
 
-// The latch between IF and ID.
-#[derive(Clone, Copy)]
-pub enum IfId {
-    // nothing was fetched
-    Empty,
-    // the instruction that was fetched
-    Holds(Instruction),
-}
+// The latch between IF and ID: the instruction that was fetched, if one was.
+pub type IfId = Option<Instruction>;
 
-// The latch between ID and EX.
-#[derive(Clone, Copy)]
-pub enum IdEx {
-    // nothing was decoded
-    Empty,
-    // an instruction, and what was read for it
-    Holds(Instruction, Operands),
-}
+// The latch between ID and EX: an instruction, and what was read for it.
+pub type IdEx = Option<(Instruction, Operands)>;
 
-// The latch between EX and WB.
-#[derive(Clone, Copy)]
-pub enum ExWb {
-    // nothing was executed
-    Empty,
-    // an instruction, and what EX has made of it
-    Holds(Instruction, Outcome),
-}
+// The latch between EX and WB: an instruction, and what EX has made of it.
+pub type ExWb = Option<(Instruction, Outcome)>;
 
 // The unit: its program, with its job's edition, the count of lines fetched, the cycles since the go, the registers, the latches, and whether it has gone since it was loaded.
 #[derive(Clone, Copy)]
@@ -75,62 +64,12 @@ pub struct InFlight {
     pub executed: ExWb,
 }
 
-// What WB writes in a cycle: whether it writes, where and what.
-#[derive(Clone, Copy)]
-pub struct Write {
-    pub writes: bool,
-    pub at: Pointer,
-    pub value: Register,
-}
+// What WB writes in a cycle, if anything: where and what.
+pub type Write = Option<(Pointer, Register)>;
 
-// The registers that ID reads in a cycle.
+// What a call answers, and the unit: refused, it comes back as it was given.
 #[derive(Clone, Copy)]
-pub struct Sources {
-    pub first: Pointer,
-    pub second: Pointer,
-    pub third: Pointer,
-}
-
-// What a load answers: 0, 10, 18, or the number that the file is refused with, with 6 the place of the first bad word; and the unit.
-#[derive(Clone, Copy)]
-pub struct Loaded {
-    pub refusal: u32,
-    pub place: usize,
+pub struct Answered<T> {
+    pub answer: Result<T, Refusal>,
     pub unit: Unit,
-}
-
-// What a go answers: 0 or 10; and the unit.
-#[derive(Clone, Copy)]
-pub struct Gone {
-    pub refusal: u32,
-    pub unit: Unit,
-}
-
-// What a cycle answers: 0, 8 or 10, with a row also 9; and the unit.
-#[derive(Clone, Copy)]
-pub struct Cycled {
-    pub refusal: u32,
-    pub unit: Unit,
-}
-
-// What a run answers: 0 or 10, how many cycles were made, and the unit.
-#[derive(Clone, Copy)]
-pub struct Ran {
-    pub refusal: u32,
-    pub made: u32,
-    pub unit: Unit,
-}
-
-// What asking for a register answers: 0, 7 or 10, and the register.
-#[derive(Clone, Copy)]
-pub struct RegisterAnswer {
-    pub refusal: u32,
-    pub register: Register,
-}
-
-// What asking whether a unit is drained answers: 0 or 10, and whether it is.
-#[derive(Clone, Copy)]
-pub struct Drained {
-    pub refusal: u32,
-    pub drained: bool,
 }

@@ -1,6 +1,15 @@
 -- For every public function: it asks nothing and no second answer fits, since its contract is one equation and has no `requires`.
 -- Assumes nothing.
-use mathlib.Core.Path.{refl}
+use mathlib.Core.Path.{refl, sym, ap, ◌∙◌}
+use mathlib.Core.List.{List}
+use Rattle.register.specs.declared.Register.{Register}
+use Rattle.unit_rules.specs.declared.InFlight.{InFlight}
+use Rattle.unit_stages.proofs.decode.read_at.Kinds as read_at_kinds
+use Rattle.unit_stages.proofs.decode.read_at.Reads as read_at_reads
+use Rattle.unit_stages.proofs.write_back.store.Kinds as store_kinds
+use Rattle.unit_stages.proofs.write_back.store.Reads as store_reads
+use Rattle.unit_stages.proofs.turn.Kinds as turn_kinds
+use Rattle.unit_stages.proofs.turn.Reads as turn_reads
 use Rattle.determined.specs.Determined.{Determined}
 use Rattle.determined.proofs.OneEquation.{by_value, no_requires}
 use Rattle.unit_stages.proofs.fetch.delivered.Kinds as delivered_kinds
@@ -63,3 +72,17 @@ in_flight_unique = by_value (λ κs a. no_requires) (λ κs a v w. refl)
 
 pub advanced_unique : Determined 0 advanced_kinds.ps advanced_kinds.r advanced_reads.requires advanced_reads.Post
 advanced_unique = by_value (λ κs a. no_requires) (λ κs a v w. refl)
+
+pub read_at_unique : Determined 1 read_at_kinds.ps read_at_kinds.r read_at_reads.requires read_at_reads.Post
+read_at_unique = by_value (λ κs a. no_requires) (λ κs a v w. refl)
+
+pub store_unique : Determined 1 store_kinds.ps store_kinds.r store_reads.requires store_reads.Post
+store_unique = record { asks_nothing = λ κs a. no_requires; one_answer = λ κs a x y v w p q. (refl, λ i. ((p ∙ sym q) i, v.1)) }
+
+pub turn_unique : Determined 2 turn_kinds.ps turn_kinds.r turn_reads.requires turn_reads.Post
+turn_unique = record {
+  asks_nothing = λ κs a. no_requires;
+  one_answer = λ κs a x y v w p q.
+      let same = p ∙ sym q in
+      (ap (λ (z : List Register × InFlight). z.1) same, λ i. (v.0, ((ap (λ (z : List Register × InFlight). z.0) same) i, v.1.1)));
+}

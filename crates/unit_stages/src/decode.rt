@@ -1,8 +1,10 @@
 // ID: where it reads, and what it latches of what was read there.
 
-ghost use Rattle.std.specs.Prelude.{◌≡◌};
-ghost use Rattle.unit_rules.specs.Stages.{sources_of, decoded_with};
+ghost use Rattle.std.specs.Prelude.{◌≡◌, get_or};
+ghost use Rattle.register.specs.Layout.{zero_register};
+ghost use Rattle.unit_rules.specs.Stages.{sources_of, read_at, decoded_with};
 
+use register::Register;
 use table::Pointer;
 use unit_rules::{IdEx, IfId, Operands, Sources};
 
@@ -11,21 +13,34 @@ pub fn read_from(latch: IfId) -> Sources
     ensures { result ≡ sources_of latch }
 {
     match latch {
-        IfId::Empty => Sources {
+        None => Sources {
             first: Pointer(0),
             second: Pointer(0),
             third: Pointer(0),
         },
-        IfId::Holds(i) => {
-            let first = i.first;
-            let second = i.second;
-            let third = i.third;
-            Sources {
-                first: first,
-                second: second,
-                third: third,
-            }
-        }
+        Some(i) => Sources {
+            first: i.first,
+            second: i.second,
+            third: i.third,
+        },
+    }
+}
+
+fn value_at(pointer: Pointer, registers: &[Register; 32]) -> Register
+    ensures { result ≡ get_or registers.now pointer.0 zero_register }
+{
+    let at = pointer.0 as usize;
+    registers.get(at).copied().unwrap_or(Register::ZERO)
+}
+
+// What ID reads there. No pointer of an instruction is beyond the registers; a record that is not well made may have one, and it reads zero.
+pub fn read_at(from: Sources, registers: &[Register; 32]) -> Operands
+    ensures { result ≡ read_at from registers.now }
+{
+    Operands {
+        first: value_at(from.first, registers),
+        second: value_at(from.second, registers),
+        third: value_at(from.third, registers),
     }
 }
 
@@ -33,8 +48,5 @@ pub fn read_from(latch: IfId) -> Sources
 pub fn decoded(latch: IfId, read: Operands) -> IdEx
     ensures { result ≡ decoded_with latch read }
 {
-    match latch {
-        IfId::Empty => IdEx::Empty,
-        IfId::Holds(i) => IdEx::Holds(i, read),
-    }
+    latch.map(|i| (i, read))
 }

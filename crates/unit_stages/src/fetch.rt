@@ -11,17 +11,14 @@ use unit_rules::IfId;
 pub fn delivered(edition: Edition, n: Count, count: Count, word: u32) -> IfId
     ensures { result ≡ delivered_of edition n count word }
 {
-    if count.0 < n.0 {
-        return IfId::Holds(instruction(edition, word));
-    }
-    IfId::Empty
+    (count < n).then(|| instruction(edition, word))
 }
 
 // The count after IF.
 pub fn next_count(n: Count, count: Count) -> Count
     ensures { result ≡ next_count n count }
 {
-    if n.0 > count.0 {
+    if count < n {
         return Count(count.0 + 1);
     }
     count

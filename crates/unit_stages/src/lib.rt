@@ -3,7 +3,7 @@
 #![tactic(auto)]
 
 ghost use Rattle.std.specs.Prelude.{◌≡◌};
-ghost use Rattle.unit_rules.specs.Stages.{in_flight_of, advanced_of};
+ghost use Rattle.unit_rules.specs.Stages.{in_flight_of, advanced_of, turned_of};
 
 pub mod decode;
 pub mod execute;
@@ -11,9 +11,12 @@ pub mod fetch;
 pub mod forward;
 pub mod write_back;
 
-use crate::decode::decoded;
+use crate::decode::{decoded, read_at, read_from};
 use crate::execute::executed;
 use crate::fetch::{delivered, next_count};
+use crate::write_back::{store, written};
+use job_rules::Program;
+use register::Register;
 use table::{Count, Edition};
 use unit_rules::{InFlight, Operands, Unit, Write};
 
@@ -21,15 +24,11 @@ use unit_rules::{InFlight, Operands, Unit, Write};
 pub fn in_flight(u: Unit) -> InFlight
     ensures { result ≡ in_flight_of u }
 {
-    let count = u.count;
-    let fetched = u.fetched;
-    let decoded = u.decoded;
-    let executed = u.executed;
     InFlight {
-        count,
-        fetched,
-        decoded,
-        executed,
+        count: u.count,
+        fetched: u.fetched,
+        decoded: u.decoded,
+        executed: u.executed,
     }
 }
 
@@ -44,13 +43,28 @@ pub fn advanced(
 ) -> InFlight
     ensures { result ≡ advanced_of edition n flight write read word }
 {
-    let count = flight.count;
-    let fetched = flight.fetched;
-    let decoding = flight.decoded;
     InFlight {
-        count: next_count(n, count),
-        fetched: delivered(edition, n, count, word),
-        decoded: decoded(fetched, read),
-        executed: executed(write, decoding),
+        count: next_count(n, flight.count),
+        fetched: delivered(edition, n, flight.count, word),
+        decoded: decoded(flight.fetched, read),
+        executed: executed(write, flight.decoded),
     }
+}
+
+// One cycle of a program, but for its number: the registers after WB's write, and what is in flight afterwards.
+pub fn turn(program: &Program, registers: &mut [Register; 32], flight: InFlight) -> InFlight
+    ensures { (registers.new, result) ≡ turned_of program.now registers.old flight }
+{
+    let write = written(flight.executed);
+    store(registers, write);
+    let read = read_at(read_from(flight.fetched), registers);
+    let here = (flight.count.0 % 64) as usize;
+    advanced(
+        program.edition,
+        program.n,
+        flight,
+        write,
+        read,
+        program.words[here],
+    )
 }

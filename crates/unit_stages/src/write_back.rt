@@ -1,38 +1,27 @@
 // WB: what it writes, as one value that the store, EX and the row share.
 
 ghost use Rattle.std.specs.Prelude.{◌≡◌};
-ghost use Rattle.unit_rules.specs.Stages.{write_to, write_of};
+ghost use Rattle.unit_rules.specs.Stages.{write_of, stored_by};
 
 use register::Register;
-use table::{Pointer, Target};
 use unit_rules::{ExWb, Write};
-
-fn write_to(target: Target, value: Register) -> Write
-    ensures { result ≡ write_to target value }
-{
-    match target {
-        Target::None => Write {
-            writes: false,
-            at: Pointer(0),
-            value: value,
-        },
-        Target::To(at) => Write {
-            writes: true,
-            at: at,
-            value: value,
-        },
-    }
-}
 
 // What WB writes in the cycle.
 pub fn written(latch: ExWb) -> Write
     ensures { result ≡ write_of latch }
 {
-    match latch {
-        ExWb::Empty => write_to(Target::None, Register::ZERO),
-        ExWb::Holds(i, o) => {
-            let target = i.target;
-            write_to(target, o.value)
+    let (i, o) = latch?;
+    Some((i.target?, o.value))
+}
+
+// The registers after that write. No target of an instruction is beyond them.
+pub fn store(registers: &mut [Register; 32], write: Write)
+    ensures { registers.new ≡ stored_by write registers.old }
+{
+    if let Some((at, value)) = write {
+        let at = at.0 as usize;
+        if at < 32 {
+            registers[at] = value;
         }
     }
 }

@@ -1,6 +1,6 @@
--- The bytes of the script that are left.
-use Rattle.std.proofs.Common.{◌-◌, length}
+-- Carried by what is left of the script, which each line makes shorter.
+use Rattle.std.proofs.Common.{length}
 use Rattle.bench.proofs.print_answers.Given as goal
 
-abbrev pub decreases-loop-at : goal.decreases-loop-at
-decreases-loop-at g l = length l.initial.script - l.at
+abbrev pub decreases-loop-line : goal.decreases-loop-line
+decreases-loop-line g l = length l.rest

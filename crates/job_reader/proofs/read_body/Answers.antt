@@ -12,5 +12,5 @@ returns-then-not-may_hold c = search (nonzero_in_file, rules)
 
 pub returns : goal.returns
 returns c =
-    job_in_file c.args.edition c.args.l.now c.args.n.0 c.args.r c.instructions_at-at.ensures c.read_words-words.ensures
+    job_in_file c.args.counts.edition c.args.l.now c.args.counts.n.0 c.args.counts.r c.instructions_at-at.ensures c.read_words-words.ensures
     c.first_bad-bad.ensures c.if-bad-lines.false c.first_register.ensures c.may_hold.ensures (ap not c.if-not-may_hold.false) c.read_registers-registers.ensures

@@ -4,4 +4,4 @@ use Rattle.job_rules.proofs.Refusals.{counts_fit}
 use Rattle.job_reader.proofs.read_job.Goals as goal
 
 pub read_body-requires : goal.read_body-requires
-read_body-requires c = counts_fit _ _ _ _ _ (sym c.read_header-header.ensures ∙ c.in-Counts.is)
+read_body-requires c = counts_fit _ _ _ (sym c.read_header-header.ensures ∙ c.in-Ok.is)

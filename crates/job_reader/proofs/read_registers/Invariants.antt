@@ -1,5 +1,4 @@
 -- Carried by `next_read`. The invariant: the array is filled with the registers before i.
-use Prim.Native.Nat.{◌-◌, ◌≤◌}
 use mathlib.Core.Path.{◌≡◌}
 use lib.ListN.{drop}
 use Rattle.register.specs.Layout.{zero_register}
@@ -8,7 +7,4 @@ use Rattle.job_rules.specs.Layout.{registers_of}
 use Rattle.job_reader.proofs.read_registers.Given as goal
 
 abbrev pub invariant-loop-i : goal.invariant-loop-i
-invariant-loop-i l = (l.i ≤ l.r) × (l.registers ≡ filled 32 zero_register (registers_of l.i (drop l.at l.l)))
-
-abbrev pub decreases-loop-i : goal.decreases-loop-i
-decreases-loop-i l = l.r - l.i
+invariant-loop-i l = l.registers ≡ filled 32 zero_register (registers_of l.i (drop l.at l.l))

@@ -1,5 +1,4 @@
 -- Carried by `next_read`. The invariant: the array is filled with the words before i.
-use Prim.Native.Nat.{◌-◌, ◌≤◌}
 use mathlib.Core.Path.{◌≡◌}
 use lib.ListN.{drop}
 use Rattle.job_rules.specs.Read.{filled}
@@ -7,7 +6,4 @@ use Rattle.job_rules.specs.Layout.{words_in}
 use Rattle.job_reader.proofs.read_words.Given as goal
 
 abbrev pub invariant-loop-i : goal.invariant-loop-i
-invariant-loop-i l = (l.i ≤ l.n) × (l.words ≡ filled 64 0 (words_in l.i (drop l.at l.l)))
-
-abbrev pub decreases-loop-i : goal.decreases-loop-i
-decreases-loop-i l = l.n - l.i
+invariant-loop-i l = l.words ≡ filled 64 0 (words_in l.i (drop l.at l.l))

@@ -7,7 +7,7 @@ use Rattle.job_writer.proofs.put_words.Goals as goal
 
 pub loop-i-init : goal.loop-i-init
 unfolding flat_map
-loop-i-init c = (search rules, refl, refl)
+loop-i-init c = refl
 
 pub loop-i-preserved : goal.loop-i-preserved
 loop-i-preserved c = search (next_written, rules)

@@ -6,12 +6,12 @@ use Rattle.plain.proofs.execute_all.Goals as goal
 
 pub returns-then-program-gt64 : goal.returns-then-program-gt64
 unfolding execute_all_of
-returns-then-program-gt64 c = rw c.answer-executed.ensures (search deciding)
+returns-then-program-gt64 c = search deciding
 
 pub returns-then-bad-program : goal.returns-then-bad-program
 unfolding execute_all_of
-returns-then-bad-program c = rw (c.answer-executed-then-bad-program.ensures, ← c.first_bad-bad.ensures) (search deciding)
+returns-then-bad-program c = rw (← c.first_bad-bad.ensures) (search deciding)
 
 pub returns : goal.returns
 unfolding execute_all_of
-returns c = rw (answered _ _ c.args.file _ c.run-after.ensures c.answer-executed-2.ensures, ← c.first_bad-bad.ensures) (search deciding)
+returns c = rw (answered c.run-after.ensures, ← c.first_bad-bad.ensures) (search deciding)

@@ -12,8 +12,8 @@ slice_bounds-put_row-start c = search starts_within
 pub put_row-requires : goal.put_row-requires
 put_row-requires c = search part_long
 
-pub returns-then-has_room : goal.returns-then-has_room
-returns-then-has_room c = search row_written
+pub returns-then-not-has_room : goal.returns-then-not-has_room
+returns-then-not-has_room c = search row_refused
 
 pub returns : goal.returns
-returns c = search row_refused
+returns c = search row_written

@@ -9,8 +9,8 @@ overflow_sub-cycles c = search not_past
 pub put_rows-requires : goal.put_rows-requires
 put_rows-requires c = (search rules, search all_left, search rows_fit)
 
-pub returns-then-has_room : goal.returns-then-has_room
-returns-then-has_room c = search trace_put
+pub returns-then-not-has_room : goal.returns-then-not-has_room
+returns-then-not-has_room c = search (trace_not_put, rules)
 
 pub returns : goal.returns
-returns c = search trace_not_put
+returns c = search trace_put

@@ -13,15 +13,12 @@ use Rattle.job_writer.proofs.registers.put_registers.Goals as goal
 
 pub loop-i-init : goal.loop-i-init
 unfolding flat_map
-loop-i-init c = (search rules, refl, refl)
+loop-i-init c = refl
 
 pub loop-i-preserved : goal.loop-i-preserved
 loop-i-preserved c =
     let a = c.args in
-    let i = c.loop-i.i in (
-      search rules,
-      search rules,
-      next_copied bytes_of 16 (λ (r : Register). refl) _ a.registers a.out.now c.loop-i.out _ c.to_bytes-bytes.result i (search rules)
-          c.loop-i.invariant.2 c.to_bytes-bytes.ensures
-          (all_fit_from (16 * i) c.to_bytes-bytes.result c.loop-i.out c.put_front.ensures (omega (arith, ap length c.to_bytes-bytes.ensures))),
-    )
+    let i = c.loop-i.i in
+    next_copied bytes_of 16 (λ (r : Register). refl) _ a.registers a.out.now c.loop-i.out _ c.to_bytes.result i (search rules)
+    c.loop-i.invariant c.to_bytes.ensures
+    (all_fit_from (16 * i) c.to_bytes.result c.loop-i.out c.put_front.ensures (omega (arith, ap length c.to_bytes.ensures)))

@@ -1,5 +1,4 @@
 -- Carried by the laws of decisions: each test as it came out, in the order of the documents.
-use mathlib.Core.Path.{◌∙◌}
 use Rattle.table.proofs.Decided.{deciding}
 use Rattle.job_rules.specs.Write.{size_or_refusal}
 use Rattle.job_rules.proofs.Pieces.{job_size}
@@ -7,29 +6,28 @@ use Rattle.job_writer.proofs.tests.size_or_refusal.Goals as goal
 
 pub returns-then-words-gt64 : goal.returns-then-words-gt64
 unfolding size_or_refusal
-returns-then-words-gt64 c = c.refused.ensures ∙ search deciding
+returns-then-words-gt64 c = search deciding
 
 pub returns-then-registers-gt512 : goal.returns-then-registers-gt512
 unfolding size_or_refusal
-returns-then-registers-gt512 c = c.refused-then-registers-gt512.ensures ∙ search deciding depth 12
+returns-then-registers-gt512 c = search deciding depth 12
 
 pub returns-then-registers-ne0 : goal.returns-then-registers-ne0
 unfolding size_or_refusal
-returns-then-registers-ne0 c = c.refused-then-registers-ne0.ensures ∙ search deciding depth 12
+returns-then-registers-ne0 c = search deciding depth 12
 
 pub returns-then-bad-words : goal.returns-then-bad-words
 unfolding size_or_refusal
-returns-then-bad-words c = rw (c.refused-then-bad-words.ensures, ← c.first_bad-bad.ensures) (search deciding depth 12)
+returns-then-bad-words c = rw (← c.first_bad-bad.ensures) (search deciding depth 12)
 
 pub returns-then-not-first_held : goal.returns-then-not-first_held
 unfolding size_or_refusal
-returns-then-not-first_held c =
-    rw (c.refused-then-not-first_held.ensures, ← c.first_bad-bad.ensures, ← c.first_held.ensures) (search deciding depth 12)
+returns-then-not-first_held c = rw (← c.first_bad-bad.ensures, ← c.first_held.ensures) (search deciding depth 12)
 
 pub returns-then-room-size : goal.returns-then-room-size
 unfolding size_or_refusal
 returns-then-room-size c =
-    rw (c.refused-then-room-size.ensures, ← c.first_bad-bad.ensures, ← c.first_held.ensures, job_size, ← c.instructions_at.ensures)
+    rw (← c.first_bad-bad.ensures, ← c.first_held.ensures, job_size, ← c.instructions_at.ensures)
     (search deciding depth 12)
 
 pub returns : goal.returns

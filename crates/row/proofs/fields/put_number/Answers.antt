@@ -2,10 +2,10 @@
 use Rattle.row_rules.specs.Text.{number_text}
 use Rattle.row.proofs.fields.put_number.Goals as goal
 
-pub returns-in-Nothing : goal.returns-in-Nothing
+pub returns-in-None : goal.returns-in-None
 unfolding number_text
-returns-in-Nothing c = rw c.in-Nothing.is c.put_hyphens.ensures
+returns-in-None c = rw c.in-None.is c.put_hyphens.ensures
 
-pub returns-in-To : goal.returns-in-To
+pub returns-in-Some : goal.returns-in-Some
 unfolding number_text
-returns-in-To c = rw c.in-To.is c.put_two.ensures
+returns-in-Some c = rw c.in-Some.is c.put_two.ensures

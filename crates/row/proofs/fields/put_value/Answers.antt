@@ -2,10 +2,10 @@
 use Rattle.row_rules.specs.Text.{value_text}
 use Rattle.row.proofs.fields.put_value.Goals as goal
 
-pub returns-in-Nothing : goal.returns-in-Nothing
+pub returns-in-None : goal.returns-in-None
 unfolding value_text
-returns-in-Nothing c = rw c.in-Nothing.is c.put_hyphens.ensures
+returns-in-None c = rw c.in-None.is c.put_hyphens.ensures
 
-pub returns-in-To : goal.returns-in-To
+pub returns-in-Some : goal.returns-in-Some
 unfolding value_text
-returns-in-To c = rw c.in-To.is c.put_register.ensures
+returns-in-Some c = rw c.in-Some.is c.put_register.ensures

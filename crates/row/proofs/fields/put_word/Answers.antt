@@ -2,10 +2,10 @@
 use Rattle.row_rules.specs.Text.{stage_text}
 use Rattle.row.proofs.fields.put_word.Goals as goal
 
-pub returns-in-Empty : goal.returns-in-Empty
+pub returns-in-None : goal.returns-in-None
 unfolding stage_text
-returns-in-Empty c = rw c.in-Empty.is c.put_hyphens.ensures
+returns-in-None c = rw c.in-None.is c.put_hyphens.ensures
 
-pub returns-in-Holds : goal.returns-in-Holds
+pub returns-in-Some : goal.returns-in-Some
 unfolding stage_text
-returns-in-Holds c = rw c.in-Holds.is c.put_hex.ensures
+returns-in-Some c = rw c.in-Some.is c.put_hex.ensures

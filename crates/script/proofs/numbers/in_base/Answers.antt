@@ -1,16 +1,18 @@
-use Rattle.std.proofs.Common.{arith, sym, ◌∙◌}
+use Rattle.std.proofs.Common.{arith, sym, length}
+use borrow.Author.Tests.{eqb-true, eqb-false}
 use Rattle.script.proofs.Numerals.{none_said, all_said, no_digit, too_large}
 use Rattle.script.proofs.numbers.in_base.Goals as goal
 
+pub returns-then-is_empty : goal.returns-then-is_empty
+returns-then-is_empty c = sym (none_said _ _ (eqb-true _ _ (sym c.if-is_empty.ensures)))
+
 pub returns-then-d-base : goal.returns-then-d-base
-returns-then-d-base c = no_digit c.loop-i.invariant c.loop-i-test.true c.digit-d.ensures c.if-d-base.true c.unknown.ensures
+returns-then-d-base c = no_digit c.loop-b.invariant c.loop-b-test.true c.digit-d.ensures c.if-d-base.true
 
 pub returns-then-value-ge-LIMIT : goal.returns-then-value-ge-LIMIT
-returns-then-value-ge-LIMIT c =
-    too_large c.loop-i.invariant c.loop-i-test.true c.digit-d.ensures (omega arith) c.if-value-ge-LIMIT.true c.unknown-then-value-ge-LIMIT.ensures
-
-pub returns-then-i-eq0 : goal.returns-then-i-eq0
-returns-then-i-eq0 c = c.unknown-then-i-eq0.ensures ∙ sym (none_said _ _ (omega arith))
+returns-then-value-ge-LIMIT c = too_large c.loop-b.invariant c.loop-b-test.true c.digit-d.ensures (omega arith) c.if-value-ge-LIMIT.true
 
 pub returns : goal.returns
-returns c = all_said c.loop-i.invariant c.loop-i-test.false (omega arith)
+returns c =
+    let some = eqb-false (length c.args.digits.now) 0 (sym c.if-is_empty.ensures) in
+    all_said c.loop-b.invariant c.loop-b-test.false (omega (arith, some, c.loop-b-test.false))

@@ -1,19 +1,14 @@
-use Rattle.std.proofs.Common.{not, ap, eq-eqb}
-use borrow.Author.Tests.{ne_eqb}
-use Rattle.script.proofs.Bytes.{beyond, begins, text_ends, found, other_more}
+use Rattle.std.proofs.Common.{rules, tests}
+use lib.Dec.{eqb}
+use Rattle.std.proofs.lemmas.Iterator.{YieldsList-from_slice}
+use Rattle.std.proofs.lemmas.Iterator.Search.{position_from_yields_List}
+use Rattle.script.proofs.Bytes.{beyond, found_next}
 use Rattle.script.proofs.words.next_place.Goals as goal
 
 pub returns-then-at-text : goal.returns-then-at-text
 returns-then-at-text c = beyond _ _ _ c.if-at-text.true
 
-pub loop-end-init : goal.loop-end-init
-loop-end-init c = begins _ _ _ c.if-at-text.false
-
-pub loop-end-preserved : goal.loop-end-preserved
-loop-end-preserved c = other_more c.loop-end.invariant c.loop-end-test.true (ap not (ne_eqb _ _ c.if-text-end.true))
-
-pub returns-else-text-end : goal.returns-else-text-end
-returns-else-text-end c = found c.loop-end.invariant c.loop-end-test.true (ap not (eq-eqb _ _ c.if-text-end.false))
-
-pub returns-after-loop-end : goal.returns-after-loop-end
-returns-after-loop-end c = text_ends c.loop-end.invariant c.loop-end-test.false
+pub returns : goal.returns
+returns c =
+    found_next c.args.byte c.args.at c.args.text.now c.if-at-text.false
+    (position_from_yields_List (λ b. eqb b c.args.byte) _ _ _ c.position.ensures.ran (YieldsList-from_slice _ cc) (λ x b q k. search (rules, tests))) c.unwrap_or.ensures

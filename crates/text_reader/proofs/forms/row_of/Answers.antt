@@ -1,20 +1,13 @@
--- Carried by the laws of `Keys`. The invariant: the row of the key from `row` on is the row of the key.
-use native.Mathlib.Omega.{arith}
-use borrow.Author.Rules.{rules}
-use Rattle.text_table.proofs.Cells.{table_long}
-use Rattle.text_reader.proofs.Keys.{key_here, key_later, key_never}
+-- Carried by `found_lem`, of the place that the search finds.
+use Rattle.std.proofs.Common.{rules, tests, ◌∙◌}
+use Rattle.std.proofs.lemmas.Iterator.{YieldsList-from_slice}
+use Rattle.std.proofs.lemmas.Iterator.Search.{position_from_yields_List}
+use lib.Dec.{eqb}
+use Rattle.text_table.specs.declared.rows.Row.{Row}
+use Rattle.text_reader.proofs.Keys.{found_lem}
 use Rattle.text_reader.proofs.forms.row_of.Goals as goal
 
-pub bounds-table-row : goal.bounds-table-row
-bounds-table-row c = omega (arith, table_long c.requires)
-
-pub returns-then-table-row : goal.returns-then-table-row
-returns-then-table-row c =
-    key_here c.requires _ _ c.loop-row-test.true c.loop-row.invariant.1 c.if-table-row.true
-
-pub loop-row-preserved : goal.loop-row-preserved
-loop-row-preserved c =
-    (search rules, key_later c.requires _ _ c.loop-row-test.true c.loop-row.invariant.1 c.if-table-row.false)
-
 pub returns : goal.returns
-returns c = key_never _ _ c.loop-row-test.false c.loop-row.invariant.1
+returns c =
+    position_from_yields_List (λ (r : Row). eqb r.key c.args.key) _ _ _ c.position.ensures.ran (YieldsList-from_slice c.args.forms.now.rows cc) (λ x b q k. search (rules, tests))
+    ∙ found_lem c.args.key c.args.forms.now.as_stated

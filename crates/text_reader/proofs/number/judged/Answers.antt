@@ -4,14 +4,14 @@ use Rattle.text_reader.proofs.number.judged.Goals as goal
 use Rattle.text_reader.proofs.number.judged.Goals.{then-value-limit-via-then-value-limit, then-value-limit-via-else-value-limit+then-not-is_numeral}
 
 pub returns-then-value-limit : goal.returns-then-value-limit
-returns-then-value-limit c =
+returns-then-value-limit g c =
     let pre = c.requires in
     elim c.then-value-limit.branch [
-      | then-value-limit-via-then-value-limit w ↦ above_limit _ _ _ _ _ _ pre.2 pre.3 c.none.ensures w.if-value-limit.true
-      | then-value-limit-via-else-value-limit+then-not-is_numeral w ↦ no_number _ _ _ _ _ _ pre.2 pre.3 w.is_numeral.ensures c.none.ensures w.if-not-is_numeral.true
+      | then-value-limit-via-then-value-limit w ↦ above_limit _ _ _ _ _ _ pre.0 pre.2 pre.3 w.if-value-limit.true
+      | then-value-limit-via-else-value-limit+then-not-is_numeral w ↦ no_number _ _ _ _ _ _ pre.0 pre.2 pre.3 w.is_numeral.ensures w.if-not-is_numeral.true
     ]
 
 pub returns : goal.returns
-returns c =
+returns g c =
     let pre = c.requires in
-    number_read _ _ _ _ _ _ pre.2 pre.3 c.is_numeral.ensures c.if-not-is_numeral.false c.if-value-limit.false
+    number_read _ _ _ _ _ _ pre.0 pre.2 pre.3 c.is_numeral.ensures c.if-not-is_numeral.false c.if-value-limit.false

@@ -4,14 +4,22 @@ use Rattle.std.proofs.lemmas.Bool.Decides.{nat_tests}
 use Rattle.text_rules.specs.Number.{digit_of}
 use Rattle.text_table.proofs.digits.digit.Goals as goal
 
-pub returns-then-b-le57 : goal.returns-then-b-le57
+pub returns-in-48-to-57 : goal.returns-in-48-to-57
 unfolding digit_of
-returns-then-b-le57 c = grind (arith, nat_tests)
+returns-in-48-to-57 c = grind (arith, nat_tests)
 
-pub returns-then-b-le70 : goal.returns-then-b-le70
+pub returns-in-65-to-70 : goal.returns-in-65-to-70
 unfolding digit_of
-returns-then-b-le70 c = grind (arith, nat_tests)
+returns-in-65-to-70 c = grind (arith, nat_tests)
 
-pub returns : goal.returns
+pub returns-in_default : goal.returns-in_default
 unfolding digit_of
-returns c = grind (arith, nat_tests)
+returns-in_default c = grind (arith, nat_tests)
+
+pub returns-in_default-2 : goal.returns-in_default-2
+unfolding digit_of
+returns-in_default-2 c = grind (arith, nat_tests)
+
+pub returns-in_default-3 : goal.returns-in_default-3
+unfolding digit_of
+returns-in_default-3 c = grind (arith, nat_tests)

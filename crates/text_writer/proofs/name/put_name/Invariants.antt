@@ -10,6 +10,3 @@ use Rattle.text_writer.proofs.name.put_name.Given as goal
 abbrev pub invariant-loop-i : goal.invariant-loop-i
 invariant-loop-i l =
     (l.i ≤ length (form_at l.row).name) × (length l.out ≡ length l.initial.out) × (l.rest ≡ key_of (take l.i (form_at l.row).name)) × (l.out ≡ from_start l.i (drop l.i (form_at l.row).name) l.initial.out)
-
-abbrev pub decreases-loop-i : goal.decreases-loop-i
-decreases-loop-i l = l.i

@@ -1,11 +1,6 @@
--- Carried by `turn` and `more`. The invariant: the unit is well made; registers, count and latches make up the unit after the cycles made so far.
-use Rattle.unit_rules.proofs.Shared.{◌-◌, ◌≤◌, true, ◌≡◌, cycles_of, well_made_of, unit_with}
+-- Registers and what is in flight make up the unit after the cycles made so far.
+use Rattle.unit_rules.proofs.Shared.{◌≡◌, cycles_of, unit_with}
 use Rattle.unit.proofs.cycles.one_by_one.Given as goal
 
-abbrev pub invariant-loop-made : goal.invariant-loop-made
-invariant-loop-made l =
-    (well_made_of l.u ≡ true) × (l.made ≤ l.m)
-    × (unit_with l.u l.made l.registers (record { count = l.count; fetched = l.fetched; decoded = l.decoded; executed = l.executed }) ≡ cycles_of l.made l.u)
-
-abbrev pub decreases-loop-made : goal.decreases-loop-made
-decreases-loop-made l = l.m - l.made
+abbrev pub invariant-loop : goal.invariant-loop
+invariant-loop l = unit_with l.u l.counter l.registers l.flight ≡ cycles_of l.counter l.u

@@ -4,16 +4,11 @@ use borrow.Author.Rules.{rules}
 use lib.ListN.{length}
 use Rattle.unit_rules.specs.Sequence.{Whole}
 use Rattle.unit_rules.proofs.WellMade.{well_made_says}
-use Rattle.unit_record.proofs.RecordNumbers.{within}
-use Rattle.unit.proofs.ByLines.{whole_field, in_67_cycles, in_64_lines, by_lines}
+use Rattle.unit.proofs.ByLines.{whole_field, in_67_cycles, in_64_lines, within, by_lines}
 use Rattle.unit.proofs.settled.by_lines.Goals as goal
 
 pub slice_bounds-execute_lines-end : goal.slice_bounds-execute_lines-end
-slice_bounds-execute_lines-end c =
-    let u = c.args.u in
-    let fields = c.well_formed.0.1.1 in
-    let fit : c.cycles_before-end.result ≤ 64 = search (in_64_lines, rules) in
-    within u.program.words c.cycles_before-end.result 64 (search (fields.0, rules)) fit
+slice_bounds-execute_lines-end c = search (in_64_lines, rules)
 
 pub reassembled-requires : goal.reassembled-requires
 reassembled-requires c = search in_67_cycles
@@ -25,5 +20,5 @@ returns c =
     let enough : u.program.n.0 ≤ length u.program.words
     = within u.program.words u.program.n.0 64 (search (fields.0, rules)) (well_made_says u c.requires.1).few in
     let whole : Whole u.registers = search (whole_field, fields.1.1.1.0) in
-    by_lines u _ c.requires.0 enough whole c.requires.2 c.cycles_before-start.ensures c.cycles_before-end.ensures
+    by_lines u _ c.requires.0 enough whole c.requires.2 c.saturating_sub-start.ensures c.saturating_sub-end.ensures
     c.execute_lines-registers.ensures c.flight_at-flight.ensures c.reassembled.ensures
