@@ -2,9 +2,8 @@
 -- `table` and by the cases of a latch.
 -- Assumes nothing.
 use mathlib.Core.Path.{◌≡◌, refl}
-use Rattle.unit_rules.specs.Latches.{IfId}
+use Rattle.unit_rules.specs.Latches.{IfId, Operands}
 use Rattle.std.specs.declared.option.Option.TheVariants.{None, Some}
-use Rattle.unit_rules.specs.Latches.{Operands}
 use Rattle.unit_rules.specs.Record.{in_decoded}
 use Rattle.unit_rules.specs.Stages.{decoded_with}
 

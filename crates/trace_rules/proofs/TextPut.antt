@@ -7,8 +7,7 @@ use Rattle.unit_rules.proofs.Shared.{eq-eqb, ne_eqb, leb-true, leb-false, leb, l
 use Rattle.unit_rules.proofs.Shared.{last_of, well_made_of, fresh_of, load_of, go_of}
 use Rattle.table.proofs.Decided.{stops, passes, ends}
 use Rattle.unit_rules.specs.Sequence.Call.{load, go}
-use Rattle.unit_rules.specs.Answers.{Loaded}
-use Rattle.unit_rules.specs.Answers.{Gone}
+use Rattle.unit_rules.specs.Answers.{Loaded, Gone}
 use Rattle.trace_rules.proofs.TextLengths.{rows_long, trace_is, trace_long}
 
 module _ (text buffer : List ℕ) where

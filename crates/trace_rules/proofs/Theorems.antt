@@ -12,14 +12,10 @@ use Rattle.row_rules.specs.declared.Flags.{Flags}
 use Rattle.alu_rules.specs.declared.Outcome.{Outcome}
 use Rattle.job_rules.specs.declared.Program.{Program}
 use Rattle.plain_rules.specs.Answer.{execute_all_of}
-use Rattle.row_rules.specs.Shown.{Stage}
-use Rattle.row_rules.specs.Shown.{Change}
+use Rattle.row_rules.specs.Shown.{Stage, Change}
 use Rattle.row_rules.specs.Text.{row_size}
 use Rattle.unit_rules.specs.declared.Instruction.{Instruction}
-use Rattle.unit_rules.specs.Latches.{Operands}
-use Rattle.unit_rules.specs.Latches.{IfId}
-use Rattle.unit_rules.specs.Latches.{IdEx}
-use Rattle.unit_rules.specs.Latches.{ExWb}
+use Rattle.unit_rules.specs.Latches.{Operands, IfId, IdEx, ExWb}
 use Rattle.unit_rules.specs.declared.Unit.{Unit}
 use Rattle.unit_rules.specs.Answers.{Cycled}
 use Rattle.unit_rules.specs.Cycle.{worked, mark_in}

@@ -6,10 +6,9 @@ use Rattle.table.specs.declared.Edition.{Edition}
 use Rattle.table.specs.declared.Pointer.{Pointer}
 use Rattle.table.specs.Fields.{first_of, rs2_of, rs3_of, rd_of}
 use Rattle.table.specs.Operation.{operation_of, reads_of, takes_first, takes_second, takes_third, is_nop, is_wired}
-use Rattle.row_rules.specs.Shown.{Stage}
+use Rattle.row_rules.specs.Shown.{Stage, Change}
 use Rattle.std.specs.declared.option.Option.TheVariants.{None, Some}
 use Rattle.row_rules.specs.declared.Flags.{Flags}
-use Rattle.row_rules.specs.Shown.{Change}
 use Rattle.unit_rules.specs.Latches.{Operands}
 
 -- the registers after the change that a row shows

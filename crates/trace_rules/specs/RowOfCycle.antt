@@ -6,14 +6,11 @@ use Rattle.table.specs.declared.Pointer.{Pointer}
 use Rattle.std.specs.declared.option.Option.{Option}
 use Rattle.std.specs.declared.option.Option.TheVariants.{None, Some}
 use Rattle.table.specs.Operation.{takes_first, takes_second, takes_third}
-use Rattle.row_rules.specs.Shown.{Stage}
+use Rattle.row_rules.specs.Shown.{Stage, Change}
 use Rattle.row_rules.specs.declared.Flags.{Flags}
-use Rattle.row_rules.specs.Shown.{Change}
 use Rattle.row_rules.specs.declared.Row.{Row}
 use Rattle.unit_rules.specs.declared.Instruction.{Instruction}
-use Rattle.unit_rules.specs.Latches.{IfId}
-use Rattle.unit_rules.specs.Latches.{IdEx}
-use Rattle.unit_rules.specs.Latches.{ExWb}
+use Rattle.unit_rules.specs.Latches.{IfId, IdEx, ExWb}
 use Rattle.unit_rules.specs.declared.Unit.{Unit}
 use Rattle.unit_rules.specs.Cycle.{is_target, read_by, after_if}
 use Rattle.unit_rules.specs.Record.{in_decoded, in_executed}

@@ -5,9 +5,8 @@ use Rattle.trace_rules.proofs.Shared.{at_front, from_start, then_from, row_text,
 use Rattle.unit_rules.proofs.Shared.{ℕ, ◌+◌, ◌*◌, ◌%◌, ◌≤◌, ◌≡◌, sym, ap, ◌∙◌, List, add_assoc, add-one, length, get_or, Register, cycles_of}
 use Rattle.unit_rules.proofs.Shared.{in_decoded, decoded_with, delivered_of, unit_with}
 use Rattle.row_rules.specs.declared.Row.{Row}
-use Rattle.unit_rules.specs.Latches.{IfId}
+use Rattle.unit_rules.specs.Latches.{IfId, Operands}
 use Rattle.unit_rules.specs.declared.InFlight.{InFlight}
-use Rattle.unit_rules.specs.Latches.{Operands}
 use Rattle.unit_rules.proofs.OneCycle.{deliver}
 use Rattle.trace_rules.proofs.Theorems.{no_value_shown}
 use Rattle.trace_rules.proofs.TextLengths.{rows_long}

@@ -19,9 +19,8 @@ use Rattle.alu_rules.specs.Width.{signed, bits, within}
 use Rattle.alu_rules.specs.Result.{result_of, outcome_of}
 use Rattle.job_rules.specs.declared.Program.{Program}
 use Rattle.job_rules.specs.Read.{header_of, tested_of, body_of}
-use Rattle.unit_rules.specs.Latches.{IfId}
+use Rattle.unit_rules.specs.Latches.{IfId, ExWb}
 use Rattle.std.specs.declared.option.Option.TheVariants.{None, Some}
-use Rattle.unit_rules.specs.Latches.{ExWb}
 use Rattle.unit_rules.specs.declared.Unit.{Unit}
 use Rattle.unit_rules.specs.Cycle.{instruction_of, mark_in, cycle_of, cycles_of}
 use Rattle.unit_rules.specs.Record.{program_made, numbers_made, drained_of, well_made_of}

@@ -6,8 +6,7 @@ use Rattle.unit_rules.proofs.Shared.{◌∷◌, add-zero, arith, eqb-true, eqb-f
 use Rattle.unit_rules.proofs.Shared.{read_of, Unit, Cycled, Ran, cycles_of, drained_of, well_made_of, last_of, load_of, go_of, cycled_of}
 use Rattle.unit_rules.proofs.Shared.{ran_of, goes_on, after_calls, Call, unit_after, made_unless, cycles_in, renews, unit_after_all, cycles_in_all, renews_in_all}
 use Rattle.table.proofs.Decided.{stops, passes, ends, not_denied, neither_held}
-use Rattle.unit_rules.specs.Answers.{Loaded}
-use Rattle.unit_rules.specs.Answers.{Gone}
+use Rattle.unit_rules.specs.Answers.{Loaded, Gone}
 use Rattle.unit_rules.specs.Sequence.Call.{load, go, cycle, row, run, register, drained}
 use Rattle.unit_rules.proofs.Positions.{drained_after, not_drained_gone, cycles_program, cycles_number, cycles_gone}
 use Rattle.unit_rules.proofs.WellMade.{WellMade, well_made_says, well_made_test, well_made_cycles, cycles_join, left_of, goes_on_lem}

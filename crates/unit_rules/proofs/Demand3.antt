@@ -15,9 +15,7 @@ use Rattle.plain_rules.proofs.Refusals.{executed}
 use Rattle.plain_rules.proofs.Theorems.{marks_of_registers}
 use Rattle.plain_rules.proofs.Marks.{mark_of_line}
 use Rattle.table.proofs.Decided.{passes, ends, not_denied}
-use Rattle.unit_rules.specs.Answers.{Loaded}
-use Rattle.unit_rules.specs.Answers.{Gone}
-use Rattle.unit_rules.specs.Answers.{Drained}
+use Rattle.unit_rules.specs.Answers.{Loaded, Gone, Drained}
 use Rattle.unit_rules.specs.Sequence.Call.{go}
 use Rattle.unit_rules.specs.Cycle.{mark_in}
 use Rattle.unit_rules.specs.Settled.{settled_flight}

@@ -36,9 +36,7 @@ pub use Rattle.job_rules.specs.Read.{filled, job_of, read_of}
 unfoldable pub use Rattle.job_rules.specs.Read.{header_of, tested_of, body_of}
 pub use Rattle.job_rules.specs.declared.Program.{Program}
 pub use Rattle.job_rules.specs.Program.{lines_of, may_hold}
-pub use Rattle.unit_rules.specs.Latches.{IfId}
-pub use Rattle.unit_rules.specs.Latches.{IdEx}
-pub use Rattle.unit_rules.specs.Latches.{ExWb}
+pub use Rattle.unit_rules.specs.Latches.{IfId, IdEx, ExWb}
 pub use Rattle.unit_rules.specs.declared.Unit.{Unit}
 pub use Rattle.unit_rules.specs.Cycle.{instruction_of, after_wb, is_target, newest_operands, operands_in, after_ex, after_id, after_if, read_by, newest}
 pub use Rattle.unit_rules.specs.Cycle.{instruction_at, given, count_after, fetched_in}
@@ -46,8 +44,7 @@ unfoldable pub use Rattle.unit_rules.specs.Cycle.{cycle_of, cycles_of}
 pub use Rattle.unit_rules.specs.Calls.{gone_of, registers_set, registers_loaded, loaded_of, loaded_by, fresh_of, begun_of}
 unfoldable pub use Rattle.unit_rules.specs.Calls.{load_of, go_of, cycled_of, ran_of, register_of, asked_drained, goes_on}
 pub use Rattle.unit_rules.specs.Sequence.{Whole, after_calls, Call, unit_after, made_unless, cycles_in, renews, unit_after_all, cycles_in_all, renews_in_all}
-pub use Rattle.unit_rules.specs.Answers.{Cycled}
-pub use Rattle.unit_rules.specs.Answers.{Ran}
+pub use Rattle.unit_rules.specs.Answers.{Cycled, Ran}
 pub use Rattle.unit_rules.specs.Record.{last_of, in_decoded, in_executed, is_empty, same_target, same_instruction, same_held, numbers_made}
 pub use Rattle.unit_rules.specs.Record.{latches_made, all_empty, program_made, rest_made, run_made}
 unfoldable pub use Rattle.unit_rules.specs.Record.{drained_of, well_made_of}

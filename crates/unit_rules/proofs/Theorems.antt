@@ -8,10 +8,7 @@ use Rattle.unit_rules.proofs.Shared.{Cycled, Ran, drained_of, well_made_of, fres
 use Rattle.unit_rules.proofs.Shared.{Call, unit_after, made_unless, cycles_in, renews, unit_after_all}
 use Rattle.table.specs.Refusal.{POINTER}
 use Rattle.table.proofs.Decided.{stops, passes, ends, each, denied, not_denied}
-use Rattle.unit_rules.specs.Answers.{Loaded}
-use Rattle.unit_rules.specs.Answers.{Gone}
-use Rattle.unit_rules.specs.Answers.{RegisterAnswer}
-use Rattle.unit_rules.specs.Answers.{Drained}
+use Rattle.unit_rules.specs.Answers.{Loaded, Gone, RegisterAnswer, Drained}
 use Rattle.unit_rules.specs.Sequence.Call.{load, go, cycle, row, run, register, drained}
 use Rattle.table.proofs.Rows.{all_alike}
 use Rattle.unit_rules.proofs.Positions.{drained_loaded}

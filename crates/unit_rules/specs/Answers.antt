@@ -9,34 +9,39 @@ use Rattle.table.specs.Refusal.{number_in, place_in, value_in}
 use Rattle.unit_rules.specs.declared.Unit.{Unit}
 use Rattle.unit_rules.specs.declared.Answered.{Answered}
 
+-- of a load: 0, 10, 18, or the number that the file is refused with, with 6 the place of the first bad word; and the unit
 pub record Loaded : Type 0 where
   pub refusal : ℕ
   pub place : ℕ
   pub unit : Unit
 
+-- of a go: 0 or 10; and the unit
 pub record Gone : Type 0 where
   pub refusal : ℕ
   pub unit : Unit
 
+-- of a cycle: 0, 8 or 10, with a row also 9; and the unit
 pub record Cycled : Type 0 where
   pub refusal : ℕ
   pub unit : Unit
 
--- and how many cycles were made
+-- of a run: 0 or 10, how many cycles were made, and the unit
 pub record Ran : Type 0 where
   pub refusal : ℕ
   pub made : ℕ
   pub unit : Unit
 
+-- of asking for a register: 0, 7 or 10, and the register
 pub record RegisterAnswer : Type 0 where
   pub refusal : ℕ
   pub register : Register
 
+-- of asking whether a unit is drained: 0 or 10, and whether it is
 pub record Drained : Type 0 where
   pub refusal : ℕ
   pub drained : Bool
 
--- ---- for each case of an answer its number and its values
+-- ---- for each case of a call's answer its number and its values, zeros on a refusal, as the record of that call has them
 
 abbrev pub said_loaded : {A : Type 0} → Answered A → Loaded
 said_loaded a = record { refusal = number_in a.answer; place = place_in a.answer; unit = a.unit }

@@ -13,12 +13,7 @@ use Rattle.job_rules.specs.Read.{ReadJob}
 use Rattle.job_rules.specs.Read.{read_of}
 use Rattle.std.specs.declared.option.Option.TheVariants.{None}
 use Rattle.unit_rules.specs.declared.Unit.{Unit}
-use Rattle.unit_rules.specs.Answers.{Loaded}
-use Rattle.unit_rules.specs.Answers.{Gone}
-use Rattle.unit_rules.specs.Answers.{Cycled}
-use Rattle.unit_rules.specs.Answers.{Ran}
-use Rattle.unit_rules.specs.Answers.{RegisterAnswer}
-use Rattle.unit_rules.specs.Answers.{Drained}
+use Rattle.unit_rules.specs.Answers.{Loaded, Gone, Cycled, Ran, RegisterAnswer, Drained}
 use Rattle.unit_rules.specs.Cycle.{cycle_of}
 use Rattle.unit_rules.specs.Record.{drained_of, well_made_of}
 

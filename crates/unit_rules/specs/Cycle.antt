@@ -15,10 +15,7 @@ use Rattle.alu_rules.specs.Result.{outcome_of}
 use Rattle.plain_rules.specs.Machine.{stored}
 use Rattle.job_rules.specs.declared.Program.{Program}
 use Rattle.unit_rules.specs.declared.Instruction.{Instruction}
-use Rattle.unit_rules.specs.Latches.{Operands}
-use Rattle.unit_rules.specs.Latches.{IfId}
-use Rattle.unit_rules.specs.Latches.{IdEx}
-use Rattle.unit_rules.specs.Latches.{ExWb}
+use Rattle.unit_rules.specs.Latches.{Operands, IfId, IdEx, ExWb}
 use Rattle.unit_rules.specs.declared.Unit.{Unit}
 
 -- the instruction of a word, on a card of this edition

@@ -11,14 +11,15 @@ use Rattle.unit_rules.specs.declared.ForOperands.{ForOperands}
 abbrev pub Operands : Type 0
 Operands = ForOperands Register
 
+-- IF/ID: the instruction that was fetched, if one was
 abbrev pub IfId : Type 0
 IfId = Option Instruction
 
--- with it, the values that ID has read
+-- ID/EX: with an instruction, the values that ID has read for it
 abbrev pub IdEx : Type 0
 IdEx = Option (Instruction × Operands)
 
--- with it, what EX has made of it
+-- EX/WB: with an instruction, what EX has made of it
 abbrev pub ExWb : Type 0
 ExWb = Option (Instruction × Outcome)
 

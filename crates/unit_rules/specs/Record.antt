@@ -9,9 +9,7 @@ use Rattle.table.specs.Refusal.{first_bad}
 use Rattle.job_rules.specs.declared.Program.{Program}
 use Rattle.job_rules.specs.Program.{lines_of, may_hold}
 use Rattle.unit_rules.specs.declared.Instruction.{Instruction}
-use Rattle.unit_rules.specs.Latches.{IfId}
-use Rattle.unit_rules.specs.Latches.{IdEx}
-use Rattle.unit_rules.specs.Latches.{ExWb}
+use Rattle.unit_rules.specs.Latches.{IfId, IdEx, ExWb}
 use Rattle.unit_rules.specs.declared.Unit.{Unit}
 use Rattle.unit_rules.specs.Cycle.{fetched_in}
 

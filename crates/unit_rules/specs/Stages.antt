@@ -12,14 +12,9 @@ use Rattle.std.specs.declared.option.Option.TheVariants.{None, Some}
 use Rattle.table.specs.Operation.{takes_first, takes_second, takes_third}
 use Rattle.job_rules.specs.declared.Program.{Program}
 use Rattle.unit_rules.specs.declared.Instruction.{Instruction}
-use Rattle.unit_rules.specs.Latches.{Operands}
-use Rattle.unit_rules.specs.Latches.{IfId}
-use Rattle.unit_rules.specs.Latches.{IdEx}
-use Rattle.unit_rules.specs.Latches.{ExWb}
+use Rattle.unit_rules.specs.Latches.{Operands, IfId, IdEx, ExWb, Write, Sources}
 use Rattle.unit_rules.specs.declared.Unit.{Unit}
 use Rattle.unit_rules.specs.declared.InFlight.{InFlight}
-use Rattle.unit_rules.specs.Latches.{Write}
-use Rattle.unit_rules.specs.Latches.{Sources}
 use Rattle.unit_rules.specs.Cycle.{instruction_of, read_by, worked, count_after}
 
 -- 1. WB: what it writes in a cycle, if anything: where and what
@@ -31,6 +26,7 @@ abbrev pub write_of : ExWb → Write
 write_of None = None
 write_of (Some (i, o)) = write_to i.target o.value
 
+-- and the registers after it
 abbrev pub stored_by : Write → List Register → List Register
 stored_by None f = f
 stored_by (Some (at, v)) f = set f at.0 v
