@@ -6,6 +6,7 @@ use crate::case::{MOST, NAMED, Words};
 use crate::print;
 use console::output::Streams;
 use plain::Executed;
+use plain::told::{mark_in, marks_in};
 use register::Register;
 use std::io::Write;
 use table::Edition;
@@ -66,7 +67,7 @@ pub(crate) fn answer_program(
     let mut program = [0u32; MOST];
     program[..NAMED].copy_from_slice(&named);
     let executed = plain::execute_all(edition, &program[..lines], file);
-    let marks = executed.answer.unwrap_or([0; 64]);
+    let marks = marks_in(&executed);
     print_executed(streams, edition, &executed, &marks);
     Some(())
 }
@@ -81,7 +82,7 @@ pub(crate) fn answer_word(
     let file = file_of(&mut words, first, first + 3)?;
     words.end()?;
     let executed = plain::execute(edition, word, file);
-    let mark = executed.answer.unwrap_or(0);
+    let mark = mark_in(&executed);
     print_executed(streams, edition, &executed, &[mark]);
     Some(())
 }

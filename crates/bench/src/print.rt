@@ -3,6 +3,7 @@
 use console::output::Streams;
 use console::refused::{number_in, place_in};
 use register::Register;
+use row::digits::hex;
 use row::values::{register_text, word_text};
 use std::io::Write;
 use table::Edition;
@@ -18,11 +19,12 @@ pub(crate) fn register(streams: &mut Streams<impl Write, impl Write>, value: Reg
     streams.print(&register_text(value));
 }
 
-// Marks as a row shows them, one after another.
+// Marks as a row shows them, one after another. Both digits are printed by one write: a formatted number makes two, of its zero in front and of the rest.
 pub(crate) fn marks(streams: &mut Streams<impl Write, impl Write>, given: &[u8]) {
     streams.print(b" ");
     for mark in given {
-        streams.print_value(format_args!("{mark:02X}"));
+        let bits = u32::from(*mark);
+        streams.print(&[hex(bits / 16), hex(bits)]);
     }
 }
 

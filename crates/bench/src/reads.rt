@@ -3,19 +3,17 @@
 use crate::case::{MOST, Words};
 use crate::print;
 use console::output::Streams;
+use job_reader::told::job_in;
 use std::io::Write;
 use table::Edition;
 
 fn print_read(streams: &mut Streams<impl Write, impl Write>, file: &[u8]) {
     let read = job_reader::read_job(file);
     print::refusal_and_place(streams, &read);
-    let (lines, registers, edition) = match read {
-        Ok(job) => (job.program.n.0, job.r, job.program.edition),
-        Err(_) => (0, 0, Edition::One),
-    };
-    streams.print_field(lines);
-    streams.print_field(registers);
-    print::edition_number(streams, edition);
+    let job = job_in(&read);
+    streams.print_field(job.program.n.0);
+    streams.print_field(job.r);
+    print::edition_number(streams, job.program.edition);
 }
 
 fn half(words: &mut Words) -> Option<u16> {

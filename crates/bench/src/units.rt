@@ -12,6 +12,7 @@ use job_rules::Program;
 use register::Register;
 use std::io::Write;
 use table::{Count, Edition};
+use unit::told::{drained_in, made_in, register_in};
 use unit_record::latches::instruction;
 use unit_record::well_made;
 use unit_rules::{ExWb, IdEx, IfId, Operands, Unit};
@@ -114,7 +115,7 @@ fn print_run(streams: &mut Streams<impl Write, impl Write>, u: Unit) {
     let ran = unit::run(u, 1000);
     streams.print(b"\nrun 1000 =");
     streams.print_field(number_in(&ran.answer));
-    streams.print_field(ran.answer.unwrap_or(0));
+    streams.print_field(made_in(&ran));
     print::unit(streams, ran.unit);
 }
 
@@ -124,14 +125,14 @@ fn print_register(streams: &mut Streams<impl Write, impl Write>, u: Unit, number
     streams.print_field(number);
     streams.print(b" =");
     streams.print_field(number_in(&held));
-    print::register(streams, held.unwrap_or(Register::ZERO));
+    print::register(streams, register_in(&held));
 }
 
 fn print_drained(streams: &mut Streams<impl Write, impl Write>, u: Unit) {
     let answer = unit::drained(u);
     streams.print(b"\ndrained =");
     streams.print_field(number_in(&answer));
-    streams.print_field(answer.unwrap_or(false) as u8);
+    streams.print_field(drained_in(&answer) as u8);
 }
 
 fn print_cycle_row(

@@ -6,6 +6,7 @@ use crate::case::{MOST, NAMED, Words};
 use crate::print;
 use crate::print::FILL;
 use console::output::Streams;
+use job_writer::told::size_in;
 use std::io::Write;
 use table::Edition;
 
@@ -31,7 +32,7 @@ fn print_written(
     let mut out = [FILL; MOST];
     let written = job_writer::write_job(edition, program, registers, &mut out[..room]);
     print::refusal_and_place(streams, &written);
-    streams.print_field(written.unwrap_or(0));
+    streams.print_field(size_in(&written));
     print::altered(streams, &out);
     print::front(streams, &out[..header_size(edition)]);
 }

@@ -7,6 +7,7 @@ use row::values::{register_text, register_word_text};
 use std::fmt::Display;
 use std::io::Write;
 use table::refusal::Refusal;
+use unit::told::register_in;
 
 // A line that is no call.
 pub(crate) fn unknown(streams: &mut Streams<impl Write, impl Write>) {
@@ -54,10 +55,10 @@ fn end_with(streams: &mut Streams<impl Write, impl Write>, value: Register) {
 // A register, zero where it is refused.
 pub(crate) fn value(
     streams: &mut Streams<impl Write, impl Write>,
-    answer: Result<Register, Refusal>,
+    answer: &Result<Register, Refusal>,
 ) {
-    begin(streams, &answer);
-    end_with(streams, answer.unwrap_or(Register::ZERO));
+    begin(streams, answer);
+    end_with(streams, register_in(answer));
 }
 
 fn word(streams: &mut Streams<impl Write, impl Write>, value: u32) {

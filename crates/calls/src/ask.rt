@@ -4,6 +4,7 @@ use crate::answers;
 use console::output::Streams;
 use script::{decimal, hex};
 use std::io::Write;
+use unit::told::drained_in;
 use unit_rules::Unit;
 
 pub(crate) fn register(streams: &mut Streams<impl Write, impl Write>, u: Unit, words: &[u8]) {
@@ -12,7 +13,7 @@ pub(crate) fn register(streams: &mut Streams<impl Write, impl Write>, u: Unit, w
         return;
     };
     let held = unit::register_of(u, number as usize);
-    answers::value(streams, held);
+    answers::value(streams, &held);
 }
 
 pub(crate) fn registers(streams: &mut Streams<impl Write, impl Write>, u: Unit) {
@@ -23,7 +24,7 @@ pub(crate) fn registers(streams: &mut Streams<impl Write, impl Write>, u: Unit) 
 
 pub(crate) fn drained(streams: &mut Streams<impl Write, impl Write>, u: Unit) {
     let drained = unit::drained(u);
-    answers::number(streams, &drained, drained.unwrap_or(false) as u8);
+    answers::number(streams, &drained, drained_in(&drained) as u8);
 }
 
 // The ones of a word, step by step; a word has eight digits, zeros in front too. The unit has no part in it.

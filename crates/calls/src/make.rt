@@ -9,6 +9,7 @@ use row::ROW_SIZE;
 use script::decimal;
 use std::io::Write;
 use std::rt::Files;
+use unit::told::made_in;
 use unit_rules::Unit;
 
 // A fresh unit in place of the one there was, which is no call and has no answer.
@@ -43,7 +44,7 @@ pub(crate) fn run(streams: &mut Streams<impl Write, impl Write>, u: Unit, words:
         return u;
     };
     let ran = unit::run(u, budget);
-    answers::number(streams, &ran.answer, ran.answer.unwrap_or(0));
+    answers::number(streams, &ran.answer, made_in(&ran));
     ran.unit
 }
 

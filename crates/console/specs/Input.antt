@@ -1,6 +1,8 @@
 -- What is known of an input that was read into a buffer, whatever came.
 -- Assumes nothing.
-use Rattle.std.specs.Prelude.{ℕ, ◌≡◌, ◌≤◌, ◌<◌, List, Option, Result, IfOk, length, take}
+use Rattle.std.specs.Prelude.{ℕ, ◌≡◌, ◌≤◌, ◌<◌, ⊤, List, Option, Result, IfOk, length, take}
+use mathlib.Core.Option.{none}
+use Rattle.std.specs.Borrow.{MutBor, Bor, Fml, Array, u8, follows_so}
 use Rattle.std.specs.Io.KnownBytes.{Consumes, IsAtEnd}
 use Rattle.console.specs.declared.input.Unreadable.{Unreadable}
 
@@ -20,3 +22,11 @@ CameFrom before after came room = IfOk came (λ size. Consumes before after (tak
 -- the same of the part of a buffer that is handed out, by the buffer's size
 abbrev pub PartFrom : Option (List ℕ) → Option (List ℕ) → ℕ → List ℕ → Type 0
 PartFrom before after room part = Consumes before after part × (length part < room → IsAtEnd after)
+
+-- that part is the front of the buffer afterwards, which has its length still
+abbrev pub IsFront : Result (Bor (List ℕ)) Unreadable → List ℕ → List ℕ → Type 0
+IsFront handed before room = (length room ≡ length before) × IfOk handed (λ part. part.now ≡ take (length part.now) room)
+
+-- the same of the buffer once the part is given back
+abbrev pub LeavesPart : MutBor (List ℕ) → Result (Bor (List ℕ)) Unreadable → Fml
+LeavesPart room handed = follows_so (Array u8 0) (Array u8 0) room.ghost_name none (λ _ _. ⊤) (IsFront handed room.now)

@@ -1,8 +1,10 @@
 // Files that are named as arguments, by the argument's number. Argument 0 is the program's own name.
 
 ghost use Rattle.std.specs.Prelude.{◌≡◌, ◌≤◌, IfOk, length};
+ghost use Rattle.std.specs.Borrow.{sem};
+ghost use Rattle.console.specs.Input.{CameInto, LeavesPart};
 
-use crate::input::{Unreadable, read_named};
+use crate::input::{Unreadable, fill_named, front};
 use crate::output::Streams;
 use std::env::FillError;
 use std::io::Write;
@@ -41,16 +43,31 @@ pub fn read_argument<'a, R: Env + Files, O: Write, E: Write>(
     number: usize,
     room: &'a mut [u8],
 ) -> Result<&'a [u8], Unreadable>
+    ensures* front { sem 𝓛 (LeavesPart room.entry result) }
     ensures into { IfOk result (λ part. length part.now ≤ length room.old) }
+    ensures output { streams.new.output ≡ streams.old.output }
+{
+    let came = fill_argument(rt, streams, number, room);
+    front(room, came)
+}
+
+// Reads that file as `fill` does.
+fn fill_argument<R: Env + Files, O: Write, E: Write>(
+    rt: &R,
+    streams: &mut Streams<O, E>,
+    number: usize,
+    room: &mut [u8],
+) -> Result<usize, Unreadable>
+    ensures into { CameInto result room.new }
     ensures output { streams.new.output ≡ streams.old.output }
 {
     let mut name_room = [0u8; PATH_MAX];
     let name = name_of(rt, number, &mut name_room);
-    let read = read_named(rt, name, room);
-    if read.is_err() {
+    let came = fill_named(rt, name, room);
+    if came.is_err() {
         streams.say_unreadable(name);
     }
-    read
+    came
 }
 
 // For each file that is named, in their order: its name on a line, and then what is printed of its bytes, or where they cannot be read.

@@ -1,9 +1,10 @@
 // Reading into a lent buffer, in as many pieces as it comes in.
 
-ghost use Rattle.std.specs.Prelude.{◌≡◌, ◌<◌, ◌≤◌, IfOk, length, take};
+ghost use Rattle.std.specs.Prelude.{◌≡◌, ◌<◌, ◌≤◌, IfOk, MatchResult, OnOk, length, take};
 ghost use Rattle.std.specs.Io.{ReadsAtMost};
 ghost use Rattle.std.specs.Io.KnownBytes.{Consumes, IsAtEnd};
-ghost use Rattle.console.specs.Input.{CameInto, CameFrom, PartFrom};
+ghost use Rattle.std.specs.Borrow.{sem};
+ghost use Rattle.console.specs.Input.{CameInto, CameFrom, PartFrom, LeavesPart};
 
 use crate::output::Streams;
 use std::io::{ErrorKind, Read, Write};
@@ -45,13 +46,25 @@ pub fn fill<R: Read>(input: &mut R, room: &mut [u8]) -> Result<usize, Unreadable
     Ok(size)
 }
 
-// The same, and what came is handed out.
+// The room's front, as far as bytes came.
+pub(crate) fn front<'a>(
+    room: &'a [u8],
+    came: Result<usize, Unreadable>,
+) -> Result<&'a [u8], Unreadable>
+    requires { IfOk came (λ size. size ≤ length room.now) }
+    ensures { MatchResult came (λ size. IfOk result (λ part. part.now ≡ take size room.now)) (λ _. OnOk result ⊥) }
+{
+    Ok(&room[..came?])
+}
+
+// `fill`, and what came is handed out. Once that is given back, the room is as `fill` left it.
 pub fn read_open<'a, R: Read>(input: &mut R, room: &'a mut [u8]) -> Result<&'a [u8], Unreadable>
+    ensures* front { sem 𝓛 (LeavesPart room.entry result) }
     ensures into { IfOk result (λ part. length part.now ≤ length room.old) }
     ensures bytes { IfOk result (λ part. PartFrom (R.remaining input.old) (R.remaining input.new) (length room.old) part.now) }
 {
-    let size = fill(input, room)?;
-    Ok(&room[..size])
+    let came = fill(input, room);
+    front(room, came)
 }
 
 // The same of standard input. Where it cannot be read, standard error says so.
@@ -60,11 +73,23 @@ pub fn read_input<'a, R: Read, O: Write, E: Write>(
     streams: &mut Streams<O, E>,
     room: &'a mut [u8],
 ) -> Result<&'a [u8], Unreadable>
+    ensures* front { sem 𝓛 (LeavesPart room.entry result) }
     ensures into { IfOk result (λ part. length part.now ≤ length room.old) }
     ensures bytes { IfOk result (λ part. PartFrom (R.remaining input.old) (R.remaining input.new) (length room.old) part.now) }
     ensures output { streams.new.output ≡ streams.old.output }
 {
     let read = read_open(input, room);
+    tell_unreadable(streams, read)
+}
+
+// Where nothing could be read, standard error says so.
+fn tell_unreadable<'a, O: Write, E: Write>(
+    streams: &mut Streams<O, E>,
+    read: Result<&'a [u8], Unreadable>,
+) -> Result<&'a [u8], Unreadable>
+    ensures same { result ≡ read.entry }
+    ensures output { streams.new.output ≡ streams.old.output }
+{
     if read.is_err() {
         streams.say(b"UNREADABLE\n");
     }
@@ -77,13 +102,26 @@ pub fn read_named<'a, F: Files>(
     name: &[u8],
     room: &'a mut [u8],
 ) -> Result<&'a [u8], Unreadable>
-    ensures { IfOk result (λ part. length part.now ≤ length room.old) }
+    ensures* front { sem 𝓛 (LeavesPart room.entry result) }
+    ensures into { IfOk result (λ part. length part.now ≤ length room.old) }
+{
+    let came = fill_named(files, name, room);
+    front(room, came)
+}
+
+// Reads the file of that name as `fill` does.
+pub(crate) fn fill_named<F: Files>(
+    files: &F,
+    name: &[u8],
+    room: &mut [u8],
+) -> Result<usize, Unreadable>
+    ensures { CameInto result room.new }
 {
     let Ok(path) = str::from_utf8(name) else {
         return Err(Unreadable);
     };
     match fs::open(files, path) {
-        Ok(mut file) => read_open(&mut file, room),
+        Ok(mut file) => fill(&mut file, room),
         Err(_) => Err(Unreadable),
     }
 }

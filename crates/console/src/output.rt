@@ -53,7 +53,15 @@ impl<O: Write, E: Write> Streams<O, E> {
         self.is_written(written)
     }
 
-    // The same of what a value is written as.
+    // The same to standard error.
+    pub fn tell(&mut self, text: &[u8]) -> bool
+        ensures { OnTrue result (Told E.contents self.old self.new text.now) }
+    {
+        let written = self.error.write_all(text);
+        self.is_written(written)
+    }
+
+    // To standard output, what a value is written as.
     pub fn print_value<D: Display + Drop>(&mut self, value: D) -> bool
         ensures { OnTrue result (IfSome (D.output value) (Printed O.contents self.old self.new)) }
     {

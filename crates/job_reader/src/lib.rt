@@ -9,6 +9,7 @@ ghost use Rattle.job_rules.specs.Read.{filled, said_read, body_of, read_of};
 
 pub mod header;
 mod numbers;
+pub mod told;
 
 use crate::header::read_header;
 use crate::numbers::{register_at, word_at};

@@ -15,6 +15,8 @@ use Rattle.job_writer.proofs.registers.register_bytes.Kinds as register_bytes_ki
 use Rattle.job_writer.proofs.registers.register_bytes.Reads as register_bytes_reads
 use Rattle.job_writer.proofs.largest.Kinds as largest_kinds
 use Rattle.job_writer.proofs.largest.Reads as largest_reads
+use Rattle.job_writer.proofs.told.size_in.Kinds as size_in_kinds
+use Rattle.job_writer.proofs.told.size_in.Reads as size_in_reads
 
 pub size_or_refusal_unique : Determined 2 size_or_refusal_kinds.ps size_or_refusal_kinds.r size_or_refusal_reads.requires size_or_refusal_reads.Post
 size_or_refusal_unique = record {
@@ -35,3 +37,6 @@ register_bytes_unique = by_value (λ κs a. no_requires) (λ κs a v w. refl)
 
 pub largest_unique : Determined 0 largest_kinds.ps largest_kinds.r largest_reads.requires largest_reads.Post
 largest_unique = by_value (λ κs a. no_requires) (λ κs a v w. refl)
+
+pub size_in_unique : Determined 1 size_in_kinds.ps size_in_kinds.r size_in_reads.requires size_in_reads.Post
+size_in_unique = by_value (λ κs a. no_requires) (λ κs a v w. refl)

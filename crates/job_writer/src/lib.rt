@@ -11,6 +11,7 @@ ghost use Rattle.job_rules.specs.Write.{said_written, write_of};
 mod numbers;
 pub mod registers;
 pub mod tests;
+pub mod told;
 
 use crate::numbers::{put_four, put_pair};
 use crate::tests::size_or_refusal;

@@ -8,6 +8,7 @@ ghost use Rattle.plain_rules.specs.Answer.{said_word, said_program, execute_of, 
 
 pub mod lines;
 mod rows;
+pub mod told;
 
 use crate::lines::{cleared, execute_marked};
 use crate::rows::{registers_of, rows_of};

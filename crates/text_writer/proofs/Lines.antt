@@ -7,10 +7,9 @@ use mathlib.Core.List.{List, [], ◌∷◌, ◌++◌, flat_map}
 use native.Mathlib.Omega.{arith}
 use borrow.Author.Tests.{eqb-true, eqb-false}
 use borrow.Rule.Slice.PartMut.{mid_of, put_mid}
-use lib.ListN.{length, set, take}
-use Rattle.buffer.specs.Front.{at_front}
-use Rattle.buffer.proofs.Parts.{all_fit}
-use Rattle.row_rules.specs.Text.{hex_digits}
+use lib.ListN.{length, set}
+use lib.Seq.{sets, sets-eq}
+use Rattle.row_rules.specs.Text.{digit, hex_digits}
 use Rattle.text_rules.specs.Forms.{Operand, form_at, word_form}
 use Rattle.text_rules.specs.Line.{NEWLINE}
 use Rattle.text_rules.specs.Listing.{numbers_text, line_text, numbers_in, gives, row_giving, line_of_word}
@@ -84,19 +83,14 @@ word_line w h = let whole : w / 2 ^ 0 % 2 ^ 25 ≡ w = omega arith in rw whole
 pub word_line_long : (w : ℕ) → w < 2 ^ 25 → length (line_text word_form (numbers_in w word_form)) ≡ 14
 word_line_long w h = ap length (word_line w h)
 
--- the line of the word 0
-abbrev zeros : List ℕ
-zeros = 46 ∷ 119 ∷ 111 ∷ 114 ∷ 100 ∷ 32 ∷ 48 ∷ 48 ∷ 48 ∷ 48 ∷ 48 ∷ 48 ∷ 48 ∷ 10 ∷ []
-
--- it stands once the word's digits have taken the place of its own
-pub word_put : (w : ℕ) → w < 2 ^ 25 → (old : List ℕ) → 14 ≤ length old → {digits : List ℕ} → digits ≡ hex_digits 7 w
-    → {new : List ℕ} → new ≡ at_front (take (length old) (put_mid 6 7 zeros digits)) old → Put (line_text word_form (numbers_in w word_form)) 14 old new
-word_put w h old room said put = record {
-  sized = sym (word_line_long w h);
-  stands =
-      put ∙ ap (λ (d : List ℕ). at_front (take (length old) (put_mid 6 7 zeros d)) old) said ∙ all_fit (put_mid 6 7 zeros (hex_digits 7 w)) old room
-      ∙ ap (λ (l : List ℕ). at_front l old) (sym (word_line w h));
-}
+-- and stands once they are stored
+pub word_put : (w : ℕ) → w < 2 ^ 25 → (old : List ℕ) → 14 ≤ length old → {d₆ d₅ d₄ d₃ d₂ d₁ d₀ : ℕ}
+    → d₆ ≡ digit (w / 0x1000000 % 16) → d₅ ≡ digit (w / 0x100000 % 16) → d₄ ≡ digit (w / 0x10000 % 16) → d₃ ≡ digit (w / 0x1000 % 16)
+    → d₂ ≡ digit (w / 0x100 % 16) → d₁ ≡ digit (w / 0x10 % 16) → d₀ ≡ digit (w % 16)
+    → Put (line_text word_form (numbers_in w word_form)) 14 old (sets old 0 (front ++ d₆ ∷ d₅ ∷ d₄ ∷ d₃ ∷ d₂ ∷ d₁ ∷ d₀ ∷ NEWLINE ∷ []))
+word_put w h old room e₆ e₅ e₄ e₃ e₂ e₁ e₀ =
+    let last : w / 16 ^ 0 % 16 ≡ w % 16 = omega arith in
+    rw (word_line w h, e₆, e₅, e₄, e₃, e₂, e₁, e₀, ← last) (record { sized = refl; stands = sets-eq (front ++ hex_digits 7 w ++ NEWLINE ∷ []) old 0 room })
 
 -- ---- which of them
 

@@ -8,8 +8,7 @@ ghost use Rattle.text_writer.specs.Put.{Put};
 
 use crate::name::put_name;
 use crate::numbers::put_numbers;
-use buffer::put_front;
-use row::values::word_text;
+use row::digits::hex;
 use text_table::Forms;
 
 // The one row of an instruction that may give the word, by the bits that no operand has.
@@ -29,9 +28,11 @@ fn row_by_bits(w: u32) -> usize
 fn leaves_out(code: u32, w: u32) -> bool
     ensures { result ≡ leaves_out code w }
 {
+    if code == 0 {
+        return w % 0x8000 != 0;
+    }
     let field = w / 0x400 % 32;
     match code {
-        0 => w % 0x8000 != 0,
         1 => field >= 16,
         3 | 6 | 12 => field != 0,
         _ => false,
@@ -64,14 +65,26 @@ fn put_instruction(out: &mut [u8], forms: &Forms, row: usize, w: u32) -> usize
     end + 1
 }
 
-// The line of any word: `.word`, a space, seven hex digits and a newline. The answer is how many bytes it has.
+// The line of any word: `.word`, a space, seven hex digits and a newline. The answer is how many bytes it has. They are stored where they belong: a line put together
+// beside the buffer and copied takes more than half as long again.
 fn put_word(out: &mut [u8], w: u32) -> usize
     requires { (w < 2 ^ 25) × (14 ≤ length out.old) }
     ensures { Put (line_text word_form (numbers_in w word_form)) result out.old out.new }
 {
-    let mut line = *b".word 0000000\n";
-    line[6..13].copy_from_slice(&word_text(w));
-    put_front(out, &line);
+    out[0] = b'.';
+    out[1] = b'w';
+    out[2] = b'o';
+    out[3] = b'r';
+    out[4] = b'd';
+    out[5] = b' ';
+    out[6] = hex(w / 0x100_0000);
+    out[7] = hex(w / 0x10_0000);
+    out[8] = hex(w / 0x1_0000);
+    out[9] = hex(w / 0x1000);
+    out[10] = hex(w / 0x100);
+    out[11] = hex(w / 0x10);
+    out[12] = hex(w);
+    out[13] = b'\n';
     14
 }
 

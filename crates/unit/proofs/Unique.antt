@@ -18,6 +18,12 @@ use Rattle.unit.proofs.cycle.Kinds as cycle_kinds
 use Rattle.unit.proofs.cycle.Reads as cycle_reads
 use Rattle.unit.proofs.run.Kinds as run_kinds
 use Rattle.unit.proofs.run.Reads as run_reads
+use Rattle.unit.proofs.told.made_in.Kinds as made_in_kinds
+use Rattle.unit.proofs.told.made_in.Reads as made_in_reads
+use Rattle.unit.proofs.told.register_in.Kinds as register_in_kinds
+use Rattle.unit.proofs.told.register_in.Reads as register_in_reads
+use Rattle.unit.proofs.told.drained_in.Kinds as drained_in_kinds
+use Rattle.unit.proofs.told.drained_in.Reads as drained_in_reads
 
 pub register_of_unique : Determined 0 register_of_kinds.ps register_of_kinds.r register_of_reads.requires register_of_reads.Post
 register_of_unique = record { asks_nothing = λ κs a. no_requires; one_answer = λ κs a x y v w p q. (unsaid_register a.0 a.1.0 x y p q, refl) }
@@ -39,3 +45,12 @@ cycle_unique = record { asks_nothing = λ κs a. no_requires; one_answer = λ κ
 
 pub run_unique : Determined 0 run_kinds.ps run_kinds.r run_reads.requires run_reads.Post
 run_unique = record { asks_nothing = λ κs a. no_requires; one_answer = λ κs a x y v w p q. (unsaid_run a.0 a.1.0 x y p q, refl) }
+
+pub made_in_unique : Determined 1 made_in_kinds.ps made_in_kinds.r made_in_reads.requires made_in_reads.Post
+made_in_unique = by_value (λ κs a. no_requires) (λ κs a v w. refl)
+
+pub register_in_unique : Determined 1 register_in_kinds.ps register_in_kinds.r register_in_reads.requires register_in_reads.Post
+register_in_unique = by_value (λ κs a. no_requires) (λ κs a v w. refl)
+
+pub drained_in_unique : Determined 1 drained_in_kinds.ps drained_in_kinds.r drained_in_reads.requires drained_in_reads.Post
+drained_in_unique = by_value (λ κs a. no_requires) (λ κs a v w. refl)

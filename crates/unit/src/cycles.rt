@@ -33,10 +33,12 @@ pub(crate) fn one_by_one(u: Unit, m: u32) -> Unit
     requires { (well_made_of u ≡ true) × (u.cycle + m ≤ last_of u.program.n.0) }
     ensures { result ≡ cycles_of m u }
 {
+    // the program alone is copied, once: to lend a part of the unit would copy all of it
+    let program = u.program;
     let mut registers = u.registers;
     let mut flight = in_flight(u);
     for _ in 0..m {
-        flight = turn(&u.program, &mut registers, flight);
+        flight = turn(&program, &mut registers, flight);
     }
     reassembled(u, m, registers, flight)
 }

@@ -11,6 +11,7 @@ mod ask;
 mod begin;
 mod cycles;
 mod settled;
+pub mod told;
 
 pub use crate::ask::{drained, register_of};
 pub use crate::begin::{fresh, go, load};

@@ -96,13 +96,14 @@ fn rest_made(count: Count, c: u32, held: Held) -> bool
 pub fn well_made(u: Unit) -> bool
     ensures { result ≡ well_made_of u }
 {
-    let program = &u.program;
+    // the program alone is copied: to lend a part of the unit would copy all of it
+    let program = u.program;
     if !program_made(&program.words, program.n) || !may_hold(program.edition, u.registers[0]) {
         return false;
     }
     let held = Held::in_latches_of(u);
     if u.gone {
-        return run_made(program, u.count, u.cycle, held);
+        return run_made(&program, u.count, u.cycle, held);
     }
     rest_made(u.count, u.cycle, held)
 }
