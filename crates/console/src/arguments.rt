@@ -36,23 +36,8 @@ pub fn print_argument<A: Env, O: Write, E: Write>(
     streams.print(b"\n");
 }
 
-// The bytes of the file of that name. Where it cannot be read, standard error says so.
-pub fn read_argument<'a, R: Env + Files, O: Write, E: Write>(
-    rt: &R,
-    streams: &mut Streams<O, E>,
-    number: usize,
-    room: &'a mut [u8],
-) -> Result<&'a [u8], Unreadable>
-    ensures* front { sem 𝓛 (LeavesPart room.entry result) }
-    ensures into { IfOk result (λ part. length part.now ≤ length room.old) }
-    ensures output { streams.new.output ≡ streams.old.output }
-{
-    let came = fill_argument(rt, streams, number, room);
-    front(room, came)
-}
-
-// Reads that file as `fill` does.
-fn fill_argument<R: Env + Files, O: Write, E: Write>(
+// Reads the file of that name into the room: how many bytes came, at its front. Where it cannot be read, standard error says so.
+pub fn fill_argument<R: Env + Files, O: Write, E: Write>(
     rt: &R,
     streams: &mut Streams<O, E>,
     number: usize,
@@ -68,6 +53,21 @@ fn fill_argument<R: Env + Files, O: Write, E: Write>(
         streams.say_unreadable(name);
     }
     came
+}
+
+// The same, and what came is handed out.
+pub fn read_argument<'a, R: Env + Files, O: Write, E: Write>(
+    rt: &R,
+    streams: &mut Streams<O, E>,
+    number: usize,
+    room: &'a mut [u8],
+) -> Result<&'a [u8], Unreadable>
+    ensures* front { sem 𝓛 (LeavesPart room.entry result) }
+    ensures into { IfOk result (λ part. length part.now ≤ length room.old) }
+    ensures output { streams.new.output ≡ streams.old.output }
+{
+    let came = fill_argument(rt, streams, number, room);
+    front(room, came)
 }
 
 // For each file that is named, in their order: its name on a line, and then what is printed of its bytes, or where they cannot be read.

@@ -46,6 +46,36 @@ pub fn fill<R: Read>(input: &mut R, room: &mut [u8]) -> Result<usize, Unreadable
     Ok(size)
 }
 
+// The same of standard input. Where it cannot be read, standard error says so.
+pub fn fill_input<R: Read, O: Write, E: Write>(
+    input: &mut R,
+    streams: &mut Streams<O, E>,
+    room: &mut [u8],
+) -> Result<usize, Unreadable>
+    ensures into { CameInto result room.new }
+    ensures bytes { CameFrom (R.remaining input.old) (R.remaining input.new) result room.new }
+    ensures output { streams.new.output ≡ streams.old.output }
+{
+    let came = fill(input, room);
+    if came.is_err() {
+        streams.say(b"UNREADABLE\n");
+    }
+    came
+}
+
+// The same of the file of that name: one that cannot be opened cannot be read.
+pub fn fill_named<F: Files>(files: &F, name: &[u8], room: &mut [u8]) -> Result<usize, Unreadable>
+    ensures { CameInto result room.new }
+{
+    let Ok(path) = str::from_utf8(name) else {
+        return Err(Unreadable);
+    };
+    match fs::open(files, path) {
+        Ok(mut file) => fill(&mut file, room),
+        Err(_) => Err(Unreadable),
+    }
+}
+
 // The room's front, as far as bytes came.
 pub(crate) fn front<'a>(
     room: &'a [u8],
@@ -96,7 +126,7 @@ fn tell_unreadable<'a, O: Write, E: Write>(
     read
 }
 
-// The same of the file of that name: one that cannot be opened cannot be read.
+// The same of the file of that name.
 pub fn read_named<'a, F: Files>(
     files: &F,
     name: &[u8],
@@ -107,21 +137,4 @@ pub fn read_named<'a, F: Files>(
 {
     let came = fill_named(files, name, room);
     front(room, came)
-}
-
-// Reads the file of that name as `fill` does.
-pub(crate) fn fill_named<F: Files>(
-    files: &F,
-    name: &[u8],
-    room: &mut [u8],
-) -> Result<usize, Unreadable>
-    ensures { CameInto result room.new }
-{
-    let Ok(path) = str::from_utf8(name) else {
-        return Err(Unreadable);
-    };
-    match fs::open(files, path) {
-        Ok(mut file) => fill(&mut file, room),
-        Err(_) => Err(Unreadable),
-    }
 }
