@@ -1,2 +1,3 @@
 mod Pieces
 pub mod Handing
+pub mod Theorems
