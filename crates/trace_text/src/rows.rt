@@ -1,4 +1,4 @@
-// The rows of so many cycles, of which the unit is asked the same as in crate `unit`. As in a run, the unit is taken apart once, and nothing of the size of the register file or the program is handed on in a cycle.
+// The rows of so many cycles, of which the unit is asked the same as in crate `unit`. As in a run, the unit is taken apart once, and nothing of the size of the register file or the program is copied in a cycle.
 
 ghost use Rattle.std.specs.Prelude.{◌+◌, ◌*◌, ◌≤◌, ◌≡◌, true, length};
 ghost use Rattle.buffer.specs.Front.{at_front};

@@ -1,4 +1,4 @@
--- The stages of "One cycle" as functions on latches and single registers, so that no register file and no program is handed on once a cycle. That they are
+-- The stages of "One cycle" as functions on latches and single registers, and a turn of them on the registers and the program. That they are
 -- those of "One cycle" is in proofs/OneCycle.antt.
 -- Assumes nothing.
 use Rattle.std.specs.Prelude.{ℕ, ◌+◌, ◌%◌, Bool, cond, ◌&&◌, List, eqb, ltb, get_or, set}

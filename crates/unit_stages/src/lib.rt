@@ -1,4 +1,4 @@
-// The stages of a cycle, each as a function on latches and single registers, so that no register file and no program is handed on once a cycle.
+// The stages of a cycle, each as a function on latches and single registers. A turn is lent the register file and the program, so that neither is copied once a cycle.
 
 #![tactic(auto)]
 
